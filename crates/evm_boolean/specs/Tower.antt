@@ -1,0 +1,45 @@
+-- Rows that are built from couplets, from the lowest up
+use Rattle.std.specs.Prelude.{ℕ, Bool, true, false, not, ◌&&◌, ◌||◌, int_lt, ℤ, Option, Some, None, List, [], ◌∷◌, ◌++◌, map, if◌then◌else◌}
+use Rattle.std.specs.Ordering.{int_eq}
+use Rattle.evm_cells.specs.Booleans.{or_cells, and_cells, sub_cells, xor}
+use Rattle.evm_cells.specs.Vertices.{evm, cells}
+use Rattle.evm_rows.specs.Rows.{Vertices, xor_rows}
+use Rattle.evm_boolean.specs.declared.combine.Op2.{Op2}
+use Rattle.evm_boolean.specs.declared.combine.Op2.TheVariants.{Or, And, Sub, Xor}
+
+-- the vertices of the union, the intersection and the difference of the cells
+unfoldable pub or_vertices : Vertices → Vertices → Vertices
+or_vertices a b = record { dim = a.dim; rows = evm a.dim (or_cells a.dim (cells a.dim a.rows) (cells a.dim b.rows)) }
+
+unfoldable pub and_vertices : Vertices → Vertices → Vertices
+and_vertices a b = record { dim = a.dim; rows = evm a.dim (and_cells a.dim (cells a.dim a.rows) (cells a.dim b.rows)) }
+
+unfoldable pub sub_vertices : Vertices → Vertices → Vertices
+sub_vertices a b = record { dim = a.dim; rows = evm a.dim (sub_cells a.dim (cells a.dim a.rows) (cells a.dim b.rows)) }
+
+-- whether a place is filled, by whether each operand fills it
+abbrev pub fills : Op2 → Bool → Bool → Bool
+fills Or l r = l || r
+fills And l r = l && r
+fills Sub l r = l && not r
+fills Xor l r = xor l r
+
+-- the rows of a couplet, with its height before each
+abbrev pub under : ℤ → List (List ℤ) → List (List ℤ)
+under h rs = map (λ r. h ∷ r) rs
+
+-- the lower of two heights
+abbrev pub lower : Option ℤ → Option ℤ → Option ℤ
+lower None y = y
+lower (Some h) None = Some h
+lower (Some h) (Some k) = if int_lt k h then Some k else Some h
+
+-- the couplets after the height h, at couplets from h on
+abbrev pub after : ℤ → List (ℤ × List (List ℤ)) → List (ℤ × List (List ℤ))
+after h [] = []
+after h ((k, c) ∷ cs) = if int_eq k h then cs else (k, c) ∷ cs
+
+-- the section above the height h
+abbrev pub section_at : ℕ → ℤ → List (List ℤ) → List (ℤ × List (List ℤ)) → List (List ℤ)
+section_at n h section [] = section
+section_at n h section ((k, c) ∷ cs) = if int_eq k h then xor_rows n section c else section

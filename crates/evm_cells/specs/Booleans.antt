@@ -1,0 +1,29 @@
+-- The Booleans of two cell sets, cell by cell.
+use Rattle.std.specs.Prelude.{ℕ, Bool, true, false, not, ◌&&◌, ◌||◌, ℤ, List}
+use Rattle.evm_cells.specs.Places.{has}
+use Rattle.evm_cells.specs.Limits.{cells_where}
+
+-- exclusive or
+unfoldable pub xor : Bool → Bool → Bool
+xor true b = not b
+xor false b = b
+
+-- the cells at which op holds of being in A and being in B (this project's own)
+unfoldable pub combine : (Bool → Bool → Bool) → ℕ → List (List ℤ) → List (List ℤ) → List (List ℤ)
+combine op n A B = cells_where n (λ c. op (has A c) (has B c))
+
+-- the union
+unfoldable pub or_cells : ℕ → List (List ℤ) → List (List ℤ) → List (List ℤ)
+or_cells n A B = combine (λ a b. a || b) n A B
+
+-- the intersection
+unfoldable pub and_cells : ℕ → List (List ℤ) → List (List ℤ) → List (List ℤ)
+and_cells n A B = combine (λ a b. a && b) n A B
+
+-- the difference
+unfoldable pub sub_cells : ℕ → List (List ℤ) → List (List ℤ) → List (List ℤ)
+sub_cells n A B = combine (λ a b. a && not b) n A B
+
+-- the exclusive or, which is the symmetric difference
+unfoldable pub xor_cells : ℕ → List (List ℤ) → List (List ℤ) → List (List ℤ)
+xor_cells n A B = combine xor n A B

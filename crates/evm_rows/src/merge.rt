@@ -1,0 +1,115 @@
+// The exclusive or of two views.
+ghost use Rattle.std.specs.Prelude.{◌≡◌, ℕ, ◌+◌, ◌-◌, ◌%◌, ◌<◌, ◌≤◌, [], ◌∷◌, ◌++◌, length, take, drop, IfOk, OnOk};
+ghost use Rattle.evm_rows.specs.Rows.{rows_of, flat_of, merge_xor, xor_rows};
+ghost use Rattle.evm_rows.specs.View.{vertices_of};
+
+use crate::solid::{NoMemory, Rows, Solid};
+use std::alloc::{AllocError, Global};
+use std::cmp::Ordering;
+
+// The first row, and the numbers after it.
+#[inline(always)]
+#[tactic(auto, using(crate::proofs::RowsLaws::row_laws))]
+pub fn split_row(flat: &[i32], width: usize, skip: usize) -> (&[i32], &[i32])
+    requires some { 0 < length flat.now }
+    requires left { skip < width }
+    requires narrow { width ≤ 6 }
+    requires whole { length flat.now % width ≡ 0 }
+    ensures first { rows_of flat.now width skip ≡ result.0.now ∷ rows_of result.1.now width skip }
+    ensures row { result.0.now ≡ drop skip (take width flat.now) }
+    ensures rest { result.1.now ≡ drop width flat.now }
+    ensures whole { length result.1.now % width ≡ 0 }
+    ensures shorter { length result.1.now + width ≡ length flat.now }
+    ensures wide { length result.0.now + skip ≡ width }
+{
+    let (whole_row, rest) = flat.split_at(width);
+    let (_, row) = whole_row.split_at(skip);
+    (row, rest)
+}
+
+// Appends each run of `width` numbers of `flat` without its first `skip`.
+pub fn append_rows(
+    out: &mut Vec<i32>,
+    flat: &[i32],
+    width: usize,
+    skip: usize,
+) -> Result<(), AllocError>
+    requires left { skip < width }
+    requires narrow { width ≤ 6 }
+    requires whole { length flat.now % width ≡ 0 }
+    ensures { OnOk result (out.new.items ≡ out.old.items ++ flat_of (rows_of flat.now width skip)) }
+{
+    let mut left = flat;
+    while left.len() != 0 {
+        let (row, rest) = split_row(left, width, skip);
+        out.extend_from_slice(row)?;
+        left = rest;
+    }
+    Ok(())
+}
+
+// The numbers of the exclusive or, in the room of an empty list.
+fn merged(mut out: Vec<i32>, a: Rows<'_>, b: Rows<'_>) -> Result<Vec<i32>, AllocError>
+    requires { out.items ≡ [] }
+    ensures { IfOk result (λ v. v.items ≡ flat_of (merge_xor (vertices_of a.entry).rows (vertices_of b.entry).rows)) }
+{
+    let mut left = a.flat;
+    let mut right = b.flat;
+    while left.len() != 0 && right.len() != 0 {
+        let (x, after_x) = split_row(left, a.width, a.skip);
+        let (y, after_y) = split_row(right, b.width, b.skip);
+        match x.cmp(y) {
+            Ordering::Less => {
+                out.extend_from_slice(x)?;
+                left = after_x;
+            }
+            Ordering::Equal => {
+                left = after_x;
+                right = after_y;
+            }
+            Ordering::Greater => {
+                out.extend_from_slice(y)?;
+                right = after_y;
+            }
+        }
+    }
+    append_rows(&mut out, left, a.width, a.skip)?;
+    append_rows(&mut out, right, b.width, b.skip)?;
+    Ok(out)
+}
+
+/// The exclusive or of the cells.
+pub fn xor(alloc: Global, a: Rows<'_>, b: Rows<'_>) -> Result<Solid, NoMemory>
+    requires { (vertices_of a).dim ≡ (vertices_of b).dim }
+    ensures dim { IfOk result (λ s. s.dim ≡ (vertices_of a.entry).dim) }
+    ensures rows { IfOk result (λ s. s.rows ≡ xor_rows (vertices_of a.entry).dim (vertices_of a.entry).rows (vertices_of b.entry).rows) }
+{
+    let dim = a.dim();
+    let room = a.flat.len().saturating_add(b.flat.len());
+    let out = Vec::with_capacity(alloc, room)?;
+    let flat = merged(out, a, b)?;
+    Ok(Solid::from_rows(dim, flat))
+}
+
+/// The exclusive or of the cells, in the room of a solid that is done with.
+pub fn xor_into(old: Solid, a: Rows<'_>, b: Rows<'_>) -> Result<Solid, NoMemory>
+    requires { (vertices_of a).dim ≡ (vertices_of b).dim }
+    ensures dim { IfOk result (λ s. s.dim ≡ (vertices_of a.entry).dim) }
+    ensures rows { IfOk result (λ s. s.rows ≡ xor_rows (vertices_of a.entry).dim (vertices_of a.entry).rows (vertices_of b.entry).rows) }
+{
+    let dim = a.dim();
+    let mut out = old.into_flat();
+    out.clear();
+    let flat = merged(out, a, b)?;
+    Ok(Solid::from_rows(dim, flat))
+}
+
+/// A solid that owns the rows of a view.
+pub fn own(alloc: Global, a: Rows<'_>) -> Result<Solid, NoMemory>
+    ensures dim { IfOk result (λ s. s.dim ≡ (vertices_of a.entry).dim) }
+    ensures rows { IfOk result (λ s. s.rows ≡ (vertices_of a.entry).rows) }
+{
+    let mut flat = Vec::new(alloc);
+    append_rows(&mut flat, a.flat, a.width, a.skip)?;
+    Ok(Solid::from_rows(a.dim(), flat))
+}

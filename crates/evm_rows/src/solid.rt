@@ -1,0 +1,138 @@
+// The types: a list of rows that owns its numbers, and a view of rows that borrows them.
+ghost use Rattle.std.specs.Prelude.{◌≡◌, ℕ, ◌-◌, ◌%◌, ◌<◌, ◌≤◌, length};
+ghost use Rattle.evm_cells.specs.Vertices.{IsVertexList};
+ghost use Rattle.evm_rows.specs.Rows.{rows_of};
+
+use std::alloc::{AllocError, AllocFailed, Global};
+use std::marker::Model;
+
+/// There was no memory.
+#[derive(Clone, Copy, Debug, PartialEq, Eq)]
+pub struct NoMemory;
+
+impl From<AllocError> for NoMemory {
+    fn from(_e: AllocError) -> NoMemory {
+        NoMemory
+    }
+}
+
+impl<T: Drop> From<AllocFailed<T>> for NoMemory {
+    fn from(_e: AllocFailed<T>) -> NoMemory {
+        NoMemory
+    }
+}
+
+/// A view of rows in a borrowed slice: each run of `width` numbers without its first `skip`.
+#[derive(Clone, Copy)]
+pub struct Rows<'a> {
+    pub flat: &'a [i32],
+    pub width: usize,
+    pub skip: usize,
+    pub ghost narrow: { width ≤ 6 },
+    pub ghost left: { skip < width },
+    pub ghost whole: { length flat.now % width ≡ 0 },
+    pub ghost vertices: { IsVertexList (width - skip) (rows_of flat.now width skip) },
+}
+
+impl<'a> Rows<'a> {
+    ghost use Rattle.std.specs.Prelude.{◌≡◌, ◌*◌, ◌<◌, length};
+    ghost use Rattle.evm_rows.specs.View.{vertices_of};
+
+    pub fn dim(&self) -> usize
+        ensures { result ≡ (vertices_of self.now).dim }
+    {
+        self.width - self.skip
+    }
+}
+
+impl Rows<'_> {
+    ghost use Rattle.std.specs.Prelude.{◌≡◌, ◌-◌, ◌<◌, ◌≤◌, ℤ, [], length, slice_index_or};
+    ghost use Rattle.evm_rows.specs.View.{vertices_of};
+
+    pub fn len(&self) -> usize
+        ensures { result ≡ length (vertices_of self.now).rows }
+    {
+        self.flat.len() / self.width
+    }
+
+    pub fn coord(&self, row: usize, axis: usize) -> i32
+        requires row { row < length (vertices_of self.now).rows }
+        requires low { 0 < axis }
+        requires high { axis ≤ (vertices_of self.now).dim }
+        ensures { (d : ℤ) → slice_index_or (slice_index_or (vertices_of self.now).rows row []) (axis - 1) d ≡ result }
+    {
+        self.flat[row * self.width + self.skip + (axis - 1)]
+    }
+}
+
+/// A list of rows that owns its numbers.
+#[derive(Drop)]
+pub struct Solid {
+    dim: usize,
+    flat: Vec<i32>,
+}
+
+impl Model for Solid {
+    ghost use Rattle.evm_rows.specs.Rows.{Vertices, AreRows, rows_of};
+
+    ghost Value = { Vertices };
+
+    ghost view = { λ s. record { dim = s.dim; rows = rows_of s.flat.items s.dim 0 } };
+
+    ghost invariant = { λ s. AreRows s.flat.items s.dim 0 };
+}
+
+impl Solid {
+    ghost use Rattle.std.specs.Prelude.{◌≡◌, ◌≤◌, ◌<◌, []};
+    ghost use Rattle.evm_rows.specs.View.{vertices_of};
+    ghost use Rattle.evm_rows.specs.Rows.{AreRows, rows_of};
+
+    pub fn empty(alloc: Global, dim: usize) -> Solid
+        requires low { 0 < dim }
+        requires high { dim ≤ 6 }
+        ensures dim { result.dim ≡ dim }
+        ensures rows { result.rows ≡ [] }
+    {
+        Solid {
+            dim,
+            flat: Vec::new(alloc),
+        }
+    }
+
+    // The solid of these numbers.
+    pub fn from_rows(dim: usize, flat: Vec<i32>) -> Solid
+        requires { AreRows flat.items dim 0 }
+        ensures dim { result.dim ≡ dim }
+        ensures rows { result.rows ≡ rows_of flat.items dim 0 }
+    {
+        Solid { dim, flat }
+    }
+
+    // The numbers of this solid.
+    pub fn into_flat(self) -> Vec<i32>
+        ensures are_rows { AreRows result.items self.dim 0 }
+        ensures rows { rows_of result.items self.dim 0 ≡ self.rows }
+    {
+        self.flat
+    }
+
+    pub fn dim(&self) -> usize
+        ensures { result ≡ self.now.dim }
+    {
+        self.dim
+    }
+
+    pub fn len(&self) -> usize {
+        self.flat.len() / self.dim
+    }
+
+    pub fn rows(&self) -> Rows<'_>
+        ensures { vertices_of result ≡ self.now }
+    {
+        Rows {
+            flat: self.flat.as_slice(),
+            width: self.dim,
+            skip: 0,
+        }
+    }
+}
