@@ -1,9 +1,9 @@
 -- The definitions at hand-made cell sets: what computes needs no list of all cells.
-use Rattle.std.proofs.Common.{◌≡◌, ℕ, Bool, true, false, List, [], ◌∷◌, length, ℤ, pos, negsuc, refl}
-use Rattle.evm_cells.specs.Places.{has, same, each, before}
-use Rattle.evm_cells.specs.Vertices.{around, touches, touch, odd}
+use Rattle.std.proofs.Common.{◌≡◌, List, [], ◌∷◌, ℤ, pos, refl}
+use Rattle.evm_cells.specs.Places.{has, same, each}
+use Rattle.evm_cells.specs.Vertices.{around, touches, touch}
 use Rattle.evm_cells.specs.Boxes.{corners}
-use Rattle.evm_cells.specs.Measures.{boundary, open_faces, moved, is_inside, is_outside, neighbours}
+use Rattle.evm_cells.specs.Measures.{boundary, open_faces, moved}
 
 -- two cells that meet at a corner
 abbrev two : List (List ℤ)

@@ -1,5 +1,5 @@
 -- The Booleans of two cell sets, cell by cell.
-use Rattle.std.specs.Prelude.{ℕ, Bool, true, false, not, ◌&&◌, ◌||◌, ℤ, List}
+use Rattle.std.specs.Prelude.{ℕ, Bool, true, false, not, ◌&&◌, ◌||◌, ℤ, List, [], ◌∷◌}
 use Rattle.evm_cells.specs.Places.{has}
 use Rattle.evm_cells.specs.Limits.{cells_where}
 
@@ -27,3 +27,8 @@ sub_cells n A B = combine (λ a b. a && not b) n A B
 -- the exclusive or, which is the symmetric difference
 unfoldable pub xor_cells : ℕ → List (List ℤ) → List (List ℤ) → List (List ℤ)
 xor_cells n A B = combine xor n A B
+
+-- the exclusive or of all the cell sets of a list; of none, the empty set (this project's own)
+unfoldable pub xor_all : ℕ → List (List (List ℤ)) → List (List ℤ)
+xor_all n [] = []
+xor_all n (A ∷ As) = xor_cells n A (xor_all n As)

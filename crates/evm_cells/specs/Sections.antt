@@ -1,5 +1,5 @@
 -- Sections (slices), couplets and cuts along an axis. The number n is the dimension of the result; S has dimension n + 1.
-use Rattle.std.specs.Prelude.{ℕ, suc, Bool, not, ℤ, pos, ◌-ℤ◌, List, map, filter, get_or}
+use Rattle.std.specs.Prelude.{ℕ, suc, not, ℤ, pos, ◌-ℤ◌, List, map, filter, get_or}
 use Rattle.std.specs.Ordering.{int_eq}
 use Rattle.evm_cells.specs.Places.{has, is_empty, without, with_at}
 use Rattle.evm_cells.specs.Limits.{cells_where, point_coords}
