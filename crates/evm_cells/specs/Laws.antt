@@ -9,10 +9,11 @@ use Rattle.evm_cells.specs.Boxes.{IsBox, is_box, box_cells, corners}
 use Rattle.evm_cells.specs.Sections.{slice, couplet, rows_at, cuts}
 use Rattle.evm_cells.specs.Measures.{content, boundary, neighbours, is_inside, is_outside, is_on_boundary}
 
--- the extreme vertices of a cell set are a vertex list, and stand for its cells
+-- the extreme vertices of a cell set are a vertex list
 abbrev pub VerticesAreEven : Type 0
 VerticesAreEven = (n : ℕ) (S : List (List ℤ)) → IsCellSet n S → IsVertexList n (evm n S)
 
+-- the cells of the extreme vertices of a cell set are that cell set
 abbrev pub CellsOfVertices : Type 0
 CellsOfVertices = (n : ℕ) (S : List (List ℤ)) → IsCellSet n S → cells n (evm n S) ≡ S
 
@@ -25,7 +26,7 @@ abbrev pub VerticesAreOne : Type 0
 VerticesAreOne = (n : ℕ) (S W : List (List ℤ)) → IsCellSet n S → IsVertexList n W
     → ((c : List ℤ) → is_cell n c ≡ true → odd (count_by (below c) W) ≡ has S c) → W ≡ evm n S
 
--- the corners of a box
+-- the corners of a box are the extreme vertices of its cells
 abbrev pub VerticesOfBox : Type 0
 VerticesOfBox = (n : ℕ) (lo hi : List ℤ) → IsBox n lo hi → corners lo hi ≡ evm n (box_cells n lo hi)
 
@@ -47,10 +48,11 @@ VerticesOfCouplet = (n i : ℕ) (h : ℤ) (S : List (List ℤ)) → IsCellSet (s
 abbrev pub NextSection : Type 0
 NextSection = (n i : ℕ) (h : ℤ) (S : List (List ℤ)) → slice n i h S ≡ xor_cells n (slice n i (h -ℤ pos 1) S) (couplet n i h S)
 
--- the cuts are the heights at which vertices stand, and between them the section does not change
+-- the cuts are the heights at which extreme vertices stand
 abbrev pub CutsOfVertices : Type 0
 CutsOfVertices = (n i : ℕ) (S : List (List ℤ)) → IsCellSet (suc n) S → i < suc n → cuts n i S ≡ filter (λ h. not (is_empty (rows_at i h (evm (suc n) S)))) (point_coords (suc n))
 
+-- from a to a + m the section does not change where no extreme vertex stands at a height above a up to a + m
 abbrev pub SectionStays : Type 0
 SectionStays = (n i : ℕ) (a : ℤ) (m : ℕ) (S : List (List ℤ)) → IsCellSet (suc n) S → i < suc n
     → ((j : ℕ) → j < m → rows_at i (a +ℤ pos (suc j)) (evm (suc n) S) ≡ []) → slice n i (a +ℤ pos m) S ≡ slice n i a S
@@ -65,10 +67,11 @@ abbrev pub VerticesByCouplets : Type 0
 VerticesByCouplets = (n : ℕ) (S W : List (List ℤ)) → IsCellSet (suc n) S → ascending W ≡ true → list_all (is_point (suc n)) W ≡ true
     → ((h : ℤ) → rows_at 0 h W ≡ evm n (couplet n 0 h S)) → W ≡ evm (suc n) S
 
--- a cell set is its sections one above the other, and its content the sum of theirs
+-- a cell set is its sections along the first axis, one above the other
 abbrev pub CellsBySections : Type 0
 CellsBySections = (n : ℕ) (S : List (List ℤ)) → IsCellSet (suc n) S → S ≡ flat_map (λ k. map (λ c. k ∷ c) (slice n 0 k S)) (cell_coords (suc n))
 
+-- the content is the sum of the contents of the sections
 abbrev pub ContentBySections : Type 0
 ContentBySections = (n : ℕ) (S : List (List ℤ)) → IsCellSet (suc n) S → length S ≡ sum_by (λ k. length (slice n 0 k S)) (cell_coords (suc n))
 
@@ -81,10 +84,11 @@ BoundaryBySections = (n : ℕ) (S : List (List ℤ)) → IsCellSet (suc n) S
 abbrev pub AroundPoint : Type 0
 AroundPoint = (S : List (List ℤ)) (p : List ℤ) → ascending S ≡ true → around S p ≡ count_by (has S) (neighbours p)
 
--- what the lists of all cells, and of all points, that pass a test are
+-- the list of the cells that pass a test ascends, and has exactly those
 abbrev pub CellsThatPass : Type 0
 CellsThatPass = (n : ℕ) (test : List ℤ → Bool) → (ascending (cells_where n test) ≡ true) × ((c : List ℤ) → has (cells_where n test) c ≡ (is_cell n c && test c))
 
+-- the list of the points that pass a test ascends, and has exactly those
 abbrev pub PointsThatPass : Type 0
 PointsThatPass = (n : ℕ) (test : List ℤ → Bool) → (ascending (points_where n test) ≡ true) × ((p : List ℤ) → has (points_where n test) p ≡ (is_point n p && test p))
 

@@ -5,7 +5,8 @@ use Rattle.evm_cells.specs.Places.{has, is_empty, without, with_at}
 use Rattle.evm_cells.specs.Limits.{cells_where, point_coords}
 use Rattle.evm_cells.specs.Booleans.{xor_cells}
 
--- the section of S at height k of axis i: the cells of S with coordinate k there, without it (after Pérez-Aguila's sections)
+-- the section of S at height k of axis i: the cells of S with coordinate k there, without it (after Pérez-Aguila's sections;
+-- by cells and without slabs it is this project's own wording)
 unfoldable pub slice : ℕ → ℕ → ℤ → List (List ℤ) → List (List ℤ)
 slice n i k S = cells_where n (λ c. has S (with_at i k c))
 
