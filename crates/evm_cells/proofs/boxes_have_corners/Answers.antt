@@ -5,8 +5,8 @@ use Rattle.evm_cells.proofs.boxes_have_corners.Goals as goal
 pub returns-clause-corners : goal.returns-clause-corners
 returns-clause-corners c = corners_are
 
-pub returns-clause-test : goal.returns-clause-test
-returns-clause-test c = box_test
+pub returns-clause-box_test : goal.returns-clause-box_test
+returns-clause-box_test c = box_test
 
 pub returns-clause-not_empty : goal.returns-clause-not_empty
 returns-clause-not_empty c = box_not_empty

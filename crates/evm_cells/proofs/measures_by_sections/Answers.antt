@@ -22,5 +22,5 @@ returns-clause-content_bound c = content_bound
 pub returns-clause-boundary_bound : goal.returns-clause-boundary_bound
 returns-clause-boundary_bound c = boundary_bound
 
-pub returns-clause-fit : goal.returns-clause-fit
-returns-clause-fit c = measures-fit
+pub returns-clause-measures_fit : goal.returns-clause-measures_fit
+returns-clause-measures_fit c = measures-fit
