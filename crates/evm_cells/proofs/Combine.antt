@@ -32,7 +32,7 @@ pub cell_set-xor : (n : ℕ) (A B : List (List ℤ)) → IsCellSet n (xor_cells 
 unfolding xor_cells
 cell_set-xor n A B = cell_set-combine xor n A B
 
-not_member : (n : ℕ) (S : List (List ℤ)) (c : List ℤ) → IsCellSet n S → is_cell n c ≡ false → has S c ≡ false
+pub not_member : (n : ℕ) (S : List (List ℤ)) (c : List ℤ) → IsCellSet n S → is_cell n c ≡ false → has S c ≡ false
 not_member n S c h e = refuted (has S c) (λ m. true≢false (sym (member_passes (is_cell n) S c h.cells m) ∙ e))
 
 at_cells : (b x y u v : Bool) → (b ≡ false → x ≡ false) → (b ≡ false → y ≡ false) → (b && xor x y) ≡ xor x y

@@ -248,7 +248,7 @@ has-cells_even n V c h l = has-cells_of n V c ∙ at_test (is_cell n c) refl
     at_test true e = ap (λ t. t && xsum (λ q. each int_le q c) V) e
     at_test false e = ap (λ t. t && xsum (λ q. each int_le q c) V) e ∙ sym (outside n V h.points h.even c l (not_all e))
 
-each_touched : (n : ℕ) (s p : List ℤ) → list_all (is_cell_coord n) s ≡ true → each touch s p ≡ true → list_all (is_point_coord n) p ≡ true
+pub each_touched : (n : ℕ) (s p : List ℤ) → list_all (is_cell_coord n) s ≡ true → each touch s p ≡ true → list_all (is_point_coord n) p ≡ true
 unfolding each
 each_touched n [] [] h t = refl
 each_touched n [] (y ∷ p) h t = absurd (false≢true t)

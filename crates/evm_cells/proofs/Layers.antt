@@ -94,7 +94,7 @@ each_sym : (p q : List ℤ) → each int_eq p q ≡ each int_eq q p
 unfolding same
 each_sym p q = same_sym p q
 
-has-rows_at : (n i : ℕ) (k : ℤ) (V : List (List ℤ)) (r : List ℤ) → i < suc n → length r ≡ n → list_all (is_point (suc n)) V ≡ true → has (rows_at i k V) r ≡ has V (with_at i k r)
+pub has-rows_at : (n i : ℕ) (k : ℤ) (V : List (List ℤ)) (r : List ℤ) → i < suc n → length r ≡ n → list_all (is_point (suc n)) V ≡ true → has (rows_at i k V) r ≡ has V (with_at i k r)
 unfolding has rows_at same
 has-rows_at n i k V r l e a =
     any-map (each int_eq r) (without i) (filter (λ q. int_eq (coord i q) k) V) ∙ in_list V a
@@ -187,7 +187,7 @@ points-rows_at n i k V l h =
     ∙ all_weaker (is_point (suc n)) (λ q. is_point n (without i q)) (λ q m. point-without n i q l m) F
     (all-filter same before strict_places (is_point (suc n)) (λ q. int_eq (coord i q) k) V h)
 
-both_guarded : (p x y : Bool) → (x ≡ true → p ≡ true) → (y ≡ true → p ≡ true) → (p ≡ true → x ≡ y) → x ≡ y
+pub both_guarded : (p x y : Bool) → (x ≡ true → p ≡ true) → (y ≡ true → p ≡ true) → (p ≡ true → x ≡ y) → x ≡ y
 both_guarded true x y f g h = h refl
 both_guarded false true y f g h = absurd (false≢true (f refl))
 both_guarded false false true f g h = g refl
@@ -272,7 +272,7 @@ still n i a (suc m) S h l e =
     ∙ ap (λ z. slice n i z S) (let q : a +ℤ pos (suc m) -ℤ pos 1 ≡ a +ℤ pos m = omega (arith, int_facts) in q)
     ∙ still n i a m S h l (λ j b. e j (omega arith))
 
-no_places : ascending [] ≡ true
+pub no_places : ascending [] ≡ true
 unfolding ascending
 no_places = refl
 

@@ -1,12 +1,13 @@
 -- The cells round a point.
-use Rattle.std.proofs.Common.{◌≡◌, Bool, true, false, ◌&&◌, ◌||◌, List, [], ◌∷◌, map, filter, length, count_by, ℤ, pos, ◌-ℤ◌, refl, sym, ap, ap₂, ◌∙◌, arith, int_lt, int_eq}
+use Rattle.std.proofs.Common.{◌≡◌, ℕ, ◌^◌, Bool, true, false, not, ◌&&◌, ◌||◌, ◌==◌, eqb-true, List, [], ◌∷◌, map, filter, length, count_by, ℤ, pos, ◌-ℤ◌, refl, sym, ap, ap₂, ◌∙◌, arith, int_lt, int_eq}
 use Rattle.std.specs.List.{list_any}
 use Rattle.std.proofs.lemmas.Int.{ints as int_facts}
 use Rattle.std.proofs.lemmas.List.Sums.{length-filter}
+use Rattle.std.proofs.lemmas.Nat.{pow_pos}
 use Rattle.evm_cells.specs.Places.{has, same, each, ascending}
 use Rattle.evm_cells.specs.Vertices.{touch, touches, around}
 use Rattle.evm_cells.specs.Boxes.{corners}
-use Rattle.evm_cells.specs.Measures.{neighbours}
+use Rattle.evm_cells.specs.Measures.{neighbours, is_inside, is_outside, is_on_boundary}
 use Rattle.evm_cells.proofs.Xor.{and_both, and_comm, and-false}
 use Rattle.evm_cells.proofs.Lists.{any-append, any-map, any-and_left, any_never}
 use Rattle.evm_cells.proofs.Coords.{lt_yes}
@@ -54,3 +55,16 @@ around-neighbours S p a =
     (λ c. has-filter (λ d. each touch d p) S c ∙ and_comm (has S c) (each touch c p)
     ∙ ap (λ b. b && has S c) (sym (has-any (neighbours p) c ∙ any-neighbours p c)) ∙ sym (has-filter (has S) (neighbours p) c)))
     ∙ length-filter (has S) (neighbours p)
+
+-- exactly one of the three places is that of a point
+pub one_place : (n : ℕ) (S : List (List ℤ)) (p : List ℤ) → count_by (λ test. test) (is_inside n S p ∷ is_outside S p ∷ is_on_boundary n S p ∷ []) ≡ 1
+unfolding is_inside is_outside is_on_boundary
+one_place n S p =
+    at (around S p == 2 ^ n) (around S p == 0)
+    (λ e f. let a = eqb-true (around S p) (2 ^ n) e in let b = eqb-true (around S p) 0 f in let c = pow_pos n in omega arith)
+  where
+    at : (a b : Bool) → (a ≡ true → b ≡ true → ⊥) → count_by (λ test. test) (a ∷ b ∷ (not a && not b) ∷ []) ≡ 1
+    at true true f = absurd (f refl refl)
+    at true false f = refl
+    at false true f = refl
+    at false false f = refl

@@ -7,17 +7,17 @@ use Rattle.evm_cells.specs.Limits.{is_point, cells_where}
 unfoldable pub box_cells : ℕ → List ℤ → List ℤ → List (List ℤ)
 box_cells n lo hi = cells_where n (λ c. each int_le lo c && each int_lt c hi)
 
--- the box is in the limits, and has room on each axis
+-- a box of dimension n: its two ends are points, and lo is below hi on each axis (this project's own)
 pub record IsBox (n : ℕ) (lo hi : List ℤ) : Type 0 where
   pub low : is_point n lo ≡ true
   pub high : is_point n hi ≡ true
   pub room : each int_lt lo hi ≡ true
 
--- the same as a test
+-- a box of dimension n, as a test
 abbrev pub is_box : ℕ → List ℤ → List ℤ → Bool
 is_box n lo hi = is_point n lo && is_point n hi && each int_lt lo hi
 
--- each choice of a number of lo or of hi on each axis, ascending where lo is below hi
+-- the corners of a box: each choice of the number of lo or of hi on each axis, ascending where lo is below hi
 unfoldable pub corners : List ℤ → List ℤ → List (List ℤ)
 corners [] hi = [] ∷ []
 corners (a ∷ lo) [] = []

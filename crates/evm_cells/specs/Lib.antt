@@ -6,3 +6,4 @@ pub mod Boxes
 pub mod Sections
 pub mod Measures
 pub mod Laws
+pub mod Examples

@@ -16,11 +16,11 @@ is_cell_coord n x = int_le (neg_ℤ (pos (limit n))) x && int_lt x (pos (limit n
 unfoldable pub is_point_coord : ℕ → ℤ → Bool
 is_point_coord n x = int_le (neg_ℤ (pos (limit n))) x && int_le x (pos (limit n))
 
--- a cell of dimension n: n such coordinates. Dimension 0 has the one cell []
+-- a cell of dimension n: n coordinates of cells. Dimension 0 has the one cell [] (this project's own)
 unfoldable pub is_cell : ℕ → List ℤ → Bool
 is_cell n c = length c == n && list_all (is_cell_coord n) c
 
--- a point of dimension n
+-- a point of dimension n: n coordinates of points
 unfoldable pub is_point : ℕ → List ℤ → Bool
 is_point n p = length p == n && list_all (is_point_coord n) p
 
@@ -34,24 +34,27 @@ unfoldable pub tuples : List ℤ → ℕ → List (List ℤ)
 tuples xs zero = [] ∷ []
 tuples xs (suc n) = flat_map (λ x. map (λ t. x ∷ t) (tuples xs n)) xs
 
--- the coordinates of cells of dimension n, and of points, ascending
+-- the coordinates of cells of dimension n, ascending
 unfoldable pub cell_coords : ℕ → List ℤ
 cell_coords n = ints (neg_ℤ (pos (limit n))) (2 * limit n)
 
+-- the coordinates of points of dimension n, ascending
 unfoldable pub point_coords : ℕ → List ℤ
 point_coords n = ints (neg_ℤ (pos (limit n))) (2 * limit n + 1)
 
--- all cells of dimension n, and all points, ascending. Both are folded, so that no proof computes them
+-- all cells of dimension n, ascending. It is folded, so that no proof computes it
 unfoldable pub every_cell : ℕ → List (List ℤ)
 every_cell n = tuples (cell_coords n) n
 
+-- all points of dimension n, ascending, and folded likewise
 unfoldable pub every_point : ℕ → List (List ℤ)
 every_point n = tuples (point_coords n) n
 
--- the ascending list of the cells that pass a test, and of the points that do
+-- the ascending list of the cells of dimension n that pass a test
 abbrev pub cells_where : ℕ → (List ℤ → Bool) → List (List ℤ)
 cells_where n test = filter test (every_cell n)
 
+-- the ascending list of the points of dimension n that pass a test
 abbrev pub points_where : ℕ → (List ℤ → Bool) → List (List ℤ)
 points_where n test = filter test (every_point n)
 

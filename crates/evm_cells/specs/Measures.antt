@@ -5,7 +5,7 @@ use Rattle.evm_cells.specs.Places.{has}
 use Rattle.evm_cells.specs.Vertices.{around, evm}
 use Rattle.evm_cells.specs.Boxes.{corners}
 
--- the content: the number of cells
+-- the content: the number of cells, which is the area, the volume and so on
 abbrev pub content : List (List ℤ) → ℕ
 content S = length S
 
@@ -19,7 +19,7 @@ moved i d [] = []
 moved zero d (x ∷ c) = (x +ℤ d) ∷ c
 moved (suc i) d (x ∷ c) = x ∷ moved i d c
 
--- the number of cells of S whose neighbour on the side d of axis i is not in S
+-- the number of cells of S whose neighbour at the distance d along axis i is not in S
 unfoldable pub open_faces : ℕ → ℤ → List (List ℤ) → ℕ
 open_faces i d S = count_by (λ c. not (has S (moved i d c))) S
 
@@ -32,12 +32,14 @@ boundary n S = sum_by (λ i. open_faces i (pos 1) S + open_faces i (negsuc 0) S)
 unfoldable pub neighbours : List ℤ → List (List ℤ)
 neighbours p = corners (map (λ x. x -ℤ pos 1) p) p
 
--- the place of a point: inside if all cells round it are filled, outside if none is, else on the boundary (this project's own)
+-- a point is inside where all the 2 ^ n cells round it are filled (this project's own)
 unfoldable pub is_inside : ℕ → List (List ℤ) → List ℤ → Bool
 is_inside n S p = around S p == 2 ^ n
 
+-- a point is outside where no cell round it is filled (this project's own)
 unfoldable pub is_outside : List (List ℤ) → List ℤ → Bool
 is_outside S p = around S p == 0
 
+-- a point is on the boundary where it is neither inside nor outside (this project's own)
 unfoldable pub is_on_boundary : ℕ → List (List ℤ) → List ℤ → Bool
 is_on_boundary n S p = not (is_inside n S p) && not (is_outside S p)

@@ -10,11 +10,11 @@ each r [] (y ∷ ys) = false
 each r (x ∷ xs) [] = false
 each r (x ∷ xs) (y ∷ ys) = r x y && each r xs ys
 
--- the same place
+-- the same place, as a test
 unfoldable pub same : List ℤ → List ℤ → Bool
 same p q = each int_eq p q
 
--- whether the place c is among the places S
+-- the place c is among the places S (this project's own)
 unfoldable pub has : List (List ℤ) → List ℤ → Bool
 has S c = list_any (same c) S
 
@@ -25,11 +25,12 @@ before [] (y ∷ ys) = true
 before (x ∷ xs) [] = false
 before (x ∷ xs) (y ∷ ys) = int_lt x y || (int_eq x y && before xs ys)
 
--- each place comes before all that follow it, so none stands twice
+-- each place of the list comes before all that follow it, so none stands twice
 unfoldable pub ascending : List (List ℤ) → Bool
 ascending [] = true
 ascending (x ∷ xs) = list_all (before x) xs && ascending xs
 
+-- the list has no place
 unfoldable pub is_empty : List (List ℤ) → Bool
 is_empty [] = true
 is_empty (c ∷ S) = false

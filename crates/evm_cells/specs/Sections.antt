@@ -1,11 +1,12 @@
 -- Sections (slices), couplets and cuts along an axis. The number n is the dimension of the result; S has dimension n + 1.
-use Rattle.std.specs.Prelude.{ℕ, suc, Bool, not, ℤ, pos, ◌-ℤ◌, List, map, filter, get_or}
+use Rattle.std.specs.Prelude.{ℕ, suc, not, ℤ, pos, ◌-ℤ◌, List, map, filter, get_or}
 use Rattle.std.specs.Ordering.{int_eq}
 use Rattle.evm_cells.specs.Places.{has, is_empty, without, with_at}
 use Rattle.evm_cells.specs.Limits.{cells_where, point_coords}
 use Rattle.evm_cells.specs.Booleans.{xor_cells}
 
--- the section of S at height k of axis i: the cells of S with coordinate k there, without it (after Pérez-Aguila's sections)
+-- the section of S at height k of axis i: the cells of S with coordinate k there, without it (after Pérez-Aguila's sections;
+-- by cells and without slabs it is this project's own wording)
 unfoldable pub slice : ℕ → ℕ → ℤ → List (List ℤ) → List (List ℤ)
 slice n i k S = cells_where n (λ c. has S (with_at i k c))
 
