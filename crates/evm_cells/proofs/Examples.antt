@@ -98,13 +98,17 @@ bars_combined = (
   combine_in xor 2 (pos 0) 3 (plane 0 0 ∷ plane 1 0 ∷ []) (plane 1 0 ∷ plane 2 0 ∷ []) refl first_bar second_bar refl refl,
 )
 
-one_square : (x : ℕ) → IsCellSet 2 (plane 0 0 ∷ []) × IsCellSet 2 (plane 1 0 ∷ [])
+first_square : IsCellSet 2 (plane 0 0 ∷ [])
 unfolding ascending before is_cell is_cell_coord limit
-one_square x = (record { ascends = refl; cells = refl }, record { ascends = refl; cells = refl })
+first_square = record { ascends = refl; cells = refl }
+
+second_square : IsCellSet 2 (plane 1 0 ∷ [])
+unfolding ascending before is_cell is_cell_coord limit
+second_square = record { ascends = refl; cells = refl }
 
 joined : or_cells 2 (plane 0 0 ∷ []) (plane 1 0 ∷ []) ≡ plane 0 0 ∷ plane 1 0 ∷ []
 unfolding or_cells tuples ints has same each
-joined = let (a, b) = one_square 0 in combine_in (λ x y. x || y) 2 (pos 0) 2 (plane 0 0 ∷ []) (plane 1 0 ∷ []) refl a b refl refl
+joined = combine_in (λ x y. x || y) 2 (pos 0) 2 (plane 0 0 ∷ []) (plane 1 0 ∷ []) refl first_square second_square refl refl
 
 vertices_joined : evm 2 (plane 0 0 ∷ plane 1 0 ∷ []) ≡ plane 0 0 ∷ plane 0 1 ∷ plane 2 0 ∷ plane 2 1 ∷ []
 unfolding odd around touches touch each tuples ints
@@ -127,10 +131,6 @@ set_two : IsCellSet 2 (plane 0 0 ∷ plane 0 1 ∷ [])
 unfolding ascending before is_cell is_cell_coord limit
 set_two = record { ascends = refl; cells = refl }
 
-set_one : IsCellSet 2 (plane 0 0 ∷ [])
-unfolding ascending before is_cell is_cell_coord limit
-set_one = record { ascends = refl; cells = refl }
-
 set_none : IsCellSet 2 []
 unfolding ascending
 set_none = record { ascends = refl; cells = refl }
@@ -143,8 +143,8 @@ pub couplets_of_stair : CoupletsOfStair
 unfolding couplet xor_cells xor tuples ints has same each
 couplets_of_stair = let (a, b, c) = sections_of_stair in (
   ap₂ (xor_cells 2) below_stair a ∙ combine_in xor 2 (pos 0) 2 [] (plane 0 0 ∷ plane 0 1 ∷ []) refl set_none set_two refl refl,
-  ap₂ (xor_cells 2) a b ∙ combine_in xor 2 (pos 0) 2 (plane 0 0 ∷ plane 0 1 ∷ []) (plane 0 0 ∷ []) refl set_two set_one refl refl,
-  ap₂ (xor_cells 2) b c ∙ combine_in xor 2 (pos 0) 2 (plane 0 0 ∷ []) [] refl set_one set_none refl refl,
+  ap₂ (xor_cells 2) a b ∙ combine_in xor 2 (pos 0) 2 (plane 0 0 ∷ plane 0 1 ∷ []) (plane 0 0 ∷ []) refl set_two first_square refl refl,
+  ap₂ (xor_cells 2) b c ∙ combine_in xor 2 (pos 0) 2 (plane 0 0 ∷ []) [] refl first_square set_none refl refl,
 )
 
 -- the vertices of the stair
