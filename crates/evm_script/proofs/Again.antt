@@ -1,5 +1,5 @@
 -- A printed command is read again.
-use Rattle.std.proofs.Common.{◌≡◌, ℕ, ◌+◌, ◌<◌, ◌≤◌, Bool, true, false, ◌&&◌, List, [], ◌∷◌, length, map, refl, sym, ◌∙◌, ap, arith, nat_lt, nat_le, ℤ, pos, Option, Some, None, Result, Ok, Err, if◌then◌else◌, codes}
+use Rattle.std.proofs.Common.{◌≡◌, ℕ, ◌≤◌, Bool, true, ◌&&◌, List, [], ◌∷◌, length, map, refl, ◌∙◌, ap, arith, nat_lt, nat_le, ℤ, Option, Some, None, Result, Ok, Err, if◌then◌else◌, codes}
 use Rattle.std.proofs.lemmas.List.{length-map}
 use Rattle.std.specs.Prelude.{slice_index, option_map, IfOk}
 use Rattle.std.specs.Option.{option_zip}
@@ -7,12 +7,11 @@ use Rattle.std.specs.Fmt.{signed_decimal}
 use Rattle.std.specs.List.{list_all}
 use Rattle.std.proofs.lemmas.Bool.{and_parts, and_from, leb-true, le-leb}
 use Rattle.std.proofs.lemmas.Bool.Decides.{nat_tests}
-use Rattle.evm_script.specs.Words.{words, without_cr, is_name, is_name_byte, is_small_letter, in_number_range, keeps_nums, nums_max, name_max, line_max, number}
-use Rattle.evm_script.specs.Line.{command, command_of_words, form_of, or_syntax, name_of, name_alone, name_number, name_numbers, numbers, some_numbers, of_pair}
-use Rattle.evm_script.specs.Printed.{spaced, command_words, printed, KeepsRules, IsReadAgain}
+use Rattle.evm_script.specs.Words.{words, is_name, is_name_byte, is_small_letter, in_number_range, keeps_nums, nums_max, name_max, line_max, number}
+use Rattle.evm_script.specs.Line.{command, command_of_words, form_of, or_syntax, name_of, name_number, name_numbers, numbers, some_numbers, of_pair}
+use Rattle.evm_script.specs.Printed.{spaced, printed, KeepsRules, IsReadAgain}
 use Rattle.evm_script.specs.declared.command.Command.{Command}
 use Rattle.evm_script.specs.declared.command.Command.TheVariants.{Blank, Input, Toggle, Add, Cut, Show, Content, Boundary, At, Point}
-use Rattle.evm_script.specs.declared.command.LineError.{LineError}
 use Rattle.evm_script.specs.declared.command.LineError.TheVariants.{Long}
 use Rattle.evm_script.proofs.Spaced.{is_plain, words_spaced, no_cr_spaced, short_spaced}
 use Rattle.evm_script.proofs.Decimals.{number_again, numbers_again, plain_number, plain_numbers}

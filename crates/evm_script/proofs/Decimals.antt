@@ -1,5 +1,5 @@
 -- Numbers in plain decimal, read again.
-use Rattle.std.proofs.Common.{◌≡◌, ℕ, zero, suc, ◌+◌, ◌-◌, ◌*◌, ◌/◌, ◌%◌, ◌^◌, ◌<◌, ◌≤◌, Bool, true, false, ◌&&◌, List, [], ◌∷◌, ◌++◌, length, get_or, map, drop, refl, sym, ◌∙◌, ap, arith, nat_eq, nat_lt, nat_le, ℤ, pos, negsuc, neg_ℤ, Option, Some, None, if◌then◌else◌}
+use Rattle.std.proofs.Common.{◌≡◌, ℕ, suc, ◌+◌, ◌/◌, ◌%◌, ◌^◌, ◌<◌, ◌≤◌, Bool, true, false, ◌&&◌, List, [], ◌∷◌, ◌++◌, length, get_or, map, drop, refl, ◌∙◌, ap, arith, nat_eq, nat_lt, nat_le, ℤ, pos, negsuc, neg_ℤ, Option, Some, None, if◌then◌else◌}
 use Rattle.std.specs.Prelude.{slice_index, option_map}
 use Rattle.std.specs.Fmt.{decimal, signed_decimal}
 use Rattle.std.specs.List.{list_all}

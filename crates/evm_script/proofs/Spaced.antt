@@ -1,11 +1,11 @@
 -- Words with one space between each two, cut into words again.
-use Rattle.std.proofs.Common.{◌≡◌, ℕ, ◌+◌, ◌*◌, ◌<◌, ◌≤◌, Bool, true, false, not, ◌&&◌, ◌||◌, List, [], ◌∷◌, ◌++◌, length, take, get_or, refl, sym, ◌∙◌, ap, arith, append_assoc, nat_eq, nat_lt, nat_le, if◌then◌else◌, length-append, inl, inr, map, ℤ, pos}
+use Rattle.std.proofs.Common.{◌≡◌, ℕ, ◌+◌, ◌*◌, ◌<◌, ◌≤◌, Bool, true, false, not, ◌&&◌, List, [], ◌∷◌, ◌++◌, length, take, get_or, refl, sym, ◌∙◌, ap, arith, append_assoc, nat_eq, nat_lt, nat_le, if◌then◌else◌, length-append, inl, inr, map, ℤ, pos}
 use Rattle.std.specs.Prelude.{slice_index, ◌-◌}
-use Rattle.std.specs.List.{All, AllPass, list_all, filter, slice_split}
+use Rattle.std.specs.List.{All, list_all, filter, slice_split}
 use Rattle.std.proofs.lemmas.List.Sums.{AllPass-from_list_all}
 use Rattle.std.proofs.lemmas.List.Folds.{list_all-append}
 use Rattle.std.proofs.lemmas.List.Splits.{slice_split_none, slice_split_at}
-use Rattle.std.proofs.lemmas.Bool.{and_parts, and_from, le-ltb, leb-true, ltb-true, cases_lt}
+use Rattle.std.proofs.lemmas.Bool.{and_parts, and_from, le-ltb, leb-true, cases_lt}
 use Rattle.std.proofs.lemmas.Bool.Decides.{nat_tests}
 use Rattle.std.proofs.lemmas.List.{get_or_past, take_more, map-append}
 use Rattle.std.specs.Fmt.{signed_decimal}
