@@ -19,7 +19,7 @@ const TEXT_ROOM: usize = 192;
 /// The line of a command, without a line feed: its words with one space between them, numbers in
 /// plain decimal without leading zeros. A blank line prints nothing.
 ///
-/// It takes memory for the text alone.
+/// It takes memory for the text alone, reserved once.
 ///
 /// # Errors
 ///
