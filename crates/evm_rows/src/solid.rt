@@ -1,10 +1,24 @@
 // The types: a list of rows that owns its numbers, and a view of rows that borrows them.
-ghost use Rattle.std.specs.Prelude.{◌≡◌, ℕ, ◌-◌, ◌%◌, ◌<◌, ◌≤◌, length};
+ghost use Rattle.std.specs.Prelude.{◌≡◌, ℕ, ◌-◌, ◌%◌, ◌<◌, ◌≤◌, length, pos};
+ghost use Rattle.evm_cells.specs.Limits.{limit};
 ghost use Rattle.evm_cells.specs.Vertices.{IsVertexList};
 ghost use Rattle.evm_rows.specs.Rows.{rows_of};
 
 use std::alloc::{AllocError, AllocFailed, Global};
 use std::marker::Model;
+
+/// The largest dimension of a solid.
+pub const DIM_MAX: usize = 6;
+
+/// The limit of coordinates in dimension `dim`: those of vertices go from minus the limit up to the limit, those of
+/// cells up to one less. It is 524288 in each dimension. Takes no memory.
+pub fn limit(_dim: usize) -> i32
+    requires low { 0 < _dim }
+    requires high { _dim ≤ 6 }
+    ensures { result ≡ pos (limit _dim) }
+{
+    524_288
+}
 
 /// There was no memory.
 #[derive(Clone, Copy, Debug, PartialEq, Eq)]
