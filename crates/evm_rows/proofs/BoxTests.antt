@@ -133,3 +133,18 @@ box_rows n flat lo hi some few h e = rw e (are_rows-flat n (corners lo hi) some 
 pub box_vertices : (n : ℕ) (flat lo hi : List ℤ) → 0 < n → IsBox n lo hi → flat ≡ flat_of (corners lo hi) → rows_of flat n 0 ≡ evm n (box_cells n lo hi)
 box_vertices n flat lo hi some h e =
     rw e (rows_of-flat_of n (corners lo hi) some (wide-points n (corners lo hi) (vertices-corners n lo hi h).points) ∙ corners_are n lo hi h)
+
+-- ---- the limits of coordinates
+
+pub coord_low : (n : ℕ) (x : ℤ) → x <ℤ neg_ℤ (pos (limit n)) → is_point_coord n x ≡ false
+unfolding is_point_coord
+coord_low n x a = ap (λ t. t && int_le x (pos (limit n))) (le_no (neg_ℤ (pos (limit n))) x a)
+
+pub coord_high : (n : ℕ) (x : ℤ) → pos (limit n) <ℤ x → is_point_coord n x ≡ false
+unfolding is_point_coord
+coord_high n x a = ap (λ t. int_le (neg_ℤ (pos (limit n))) x && t) (le_no x (pos (limit n)) a) ∙ and-false (int_le (neg_ℤ (pos (limit n))) x)
+
+-- a list is a point of its own dimension if its coordinates are
+pub point_coords : (p : List ℤ) → is_point (length p) p ≡ list_all (is_point_coord (length p)) p
+unfolding is_point
+point_coords p = ap (λ t. t && list_all (is_point_coord (length p)) p) (eq-eqb (length p) (length p) refl)

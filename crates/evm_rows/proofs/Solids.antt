@@ -25,6 +25,12 @@ vertices_shown flat n a = let e = none_less n in let P : ℕ → Type 0 = λ m. 
 pub solid_shown : (flat : List ℤ) (n : ℕ) → AreRows flat n 0 → IsSolid (shown flat n)
 solid_shown flat n a = record { low = a.left; high = a.narrow; vertices = vertices_shown flat n a }
 
+-- whole rows that are a vertex list
+pub are_rows-from : (flat : List ℤ) (n : ℕ) → 0 < n → n ≤ 6 → length flat % n ≡ 0 → IsVertexList n (rows_of flat n 0) → AreRows flat n 0
+are_rows-from flat n some few whole v =
+    let e = none_less n in
+    record { narrow = few; left = some; whole = whole; vertices = subst (λ (m : ℕ). IsVertexList m (rows_of flat n 0)) (sym e) v }
+
 -- the rows of whole rows, one after another, are the numbers again
 flat_of-rows_of_below : (k : ℕ) (xs : List ℤ) (w : ℕ) → length xs < k → 0 < w → length xs % w ≡ 0 → flat_of (rows_of xs w 0) ≡ xs
 flat_of-rows_of_below zero xs w below some whole = absurd (omega arith)

@@ -2,9 +2,11 @@
 #![tactic(auto)]
 
 mod boxes;
+mod check;
 mod merge;
 mod solid;
 
 pub use boxes::BoxError;
+pub use check::RowError;
 pub use merge::{append_rows, own, split_row, xor, xor_into};
 pub use solid::{DIM_MAX, NoMemory, Rows, Solid, limit};
