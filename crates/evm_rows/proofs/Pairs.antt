@@ -166,4 +166,3 @@ lone_end bs i a b p = at (drop i bs) refl
         let f = at_front bs i c c (c' ∷ cs) e in
         let g = at_front bs (i + 1) c c' cs f.2 in
         absurd (let l = g.0 in omega arith)
-

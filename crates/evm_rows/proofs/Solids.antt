@@ -67,7 +67,7 @@ same_vertices b n m xs ys a c e t =
     let is : b ≡ same xs ys = t ∙ pointwise-same xs ys in (
       λ h. ap₂ shown (strict_places.equal xs ys (sym is ∙ h)) e,
       λ h. let rows : rows_of xs n 0 ≡ rows_of ys n 0 = ap (λ (v : Vertices). v.rows) h ∙ ap (λ (k : ℕ). rows_of ys k 0) (sym e) in
-      is ∙ ap (λ zs. same zs ys) (numbers_same n xs ys a d rows) ∙ strict_places.itself ys,
+          is ∙ ap (λ zs. same zs ys) (numbers_same n xs ys a d rows) ∙ strict_places.itself ys,
     )
 
 -- and whether they have the same cells
@@ -75,8 +75,8 @@ pub same_cells : (v w : Vertices) → IsVertexList v.dim v.rows → IsVertexList
 same_cells v w a b = (
   λ h. (ap (λ (u : Vertices). u.dim) h, ap (λ (u : Vertices). cells u.dim u.rows) h),
   λ h. let d : IsVertexList v.dim w.rows = subst (λ (k : ℕ). IsVertexList k w.rows) (sym h.0) b in
-  let rows : v.rows ≡ w.rows = rows_told v.dim v.rows w.rows a d (h.1 ∙ ap (λ (k : ℕ). cells k w.rows) (sym h.0)) in
-  λ i. record { dim = h.0 i; rows = rows i },
+      let rows : v.rows ≡ w.rows = rows_told v.dim v.rows w.rows a d (h.1 ∙ ap (λ (k : ℕ). cells k w.rows) (sym h.0)) in
+      λ i. record { dim = h.0 i; rows = rows i },
 )
 
 -- one fact by way of another

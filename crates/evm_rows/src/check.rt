@@ -184,12 +184,7 @@ fn has_lone(places: &[&[i32]]) -> bool
 
 // Whether some place occurs an odd number of times among the rows without their first `skip` numbers. Where nothing is
 // left of them, their number tells.
-fn has_odd_place(
-    alloc: Global,
-    flat: &[i32],
-    width: usize,
-    skip: usize,
-) -> Result<bool, AllocError>
+fn has_odd_place(alloc: Global, flat: &[i32], width: usize, skip: usize) -> Result<bool, AllocError>
     requires some { 0 < width }
     requires left { skip ≤ width }
     requires narrow { width ≤ 6 }
