@@ -58,6 +58,16 @@ pub record Vertices : Type 0 where
   pub dim : ℕ
   pub rows : List (List ℤ)
 
+-- the cells that vertices stand for
+abbrev pub cells_of : Vertices → List (List ℤ)
+cells_of v = cells v.dim v.rows
+
+-- the vertices of a solid: a vertex list of dimension 1 to 6
+pub record IsSolid (v : Vertices) : Type 0 where
+  pub low : 0 < v.dim
+  pub high : v.dim ≤ 6
+  pub vertices : IsVertexList v.dim v.rows
+
 -- a flat list has whole rows of 1 to 6 numbers that are left after the skip, and they are a vertex list
 pub record AreRows (flat : List ℤ) (width skip : ℕ) : Type 0 where
   pub narrow : width ≤ 6

@@ -1,8 +1,15 @@
 //! Solids as lists of extreme vertices, views of them, and their exclusive or.
 #![tactic(auto)]
 
+mod boxes;
+mod check;
 mod merge;
 mod solid;
 
+pub use boxes::BoxError;
+pub use check::RowError;
 pub use merge::{append_rows, own, split_row, xor, xor_into};
-pub use solid::{NoMemory, Rows, Solid};
+pub use solid::{DIM_MAX, NoMemory, Rows, Solid, limit};
+
+#[cfg(test)]
+mod tests;

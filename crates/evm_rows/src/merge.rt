@@ -1,5 +1,8 @@
 // The exclusive or of two views.
-ghost use Rattle.std.specs.Prelude.{◌≡◌, ℕ, ◌+◌, ◌-◌, ◌%◌, ◌<◌, ◌≤◌, [], ◌∷◌, ◌++◌, length, take, drop, IfOk, OnOk};
+ghost use Rattle.std.specs.Prelude.{◌≡◌, ℕ, ◌+◌, ◌-◌, ◌%◌, ◌<◌, ◌≤◌, [], ◌∷◌, ◌++◌, length, take, drop, IfOk, OnOk, ℤ, List};
+ghost use Rattle.evm_cells.specs.Places.{has};
+ghost use Rattle.evm_cells.specs.Booleans.{xor, xor_cells};
+ghost use Rattle.evm_cells.specs.Vertices.{cells};
 ghost use Rattle.evm_rows.specs.Rows.{rows_of, flat_of, merge_xor, xor_rows};
 ghost use Rattle.evm_rows.specs.View.{vertices_of};
 
@@ -83,6 +86,8 @@ pub fn xor(alloc: Global, a: Rows<'_>, b: Rows<'_>) -> Result<Solid, NoMemory>
     requires { (vertices_of a).dim ≡ (vertices_of b).dim }
     ensures dim { IfOk result (λ s. s.dim ≡ (vertices_of a.entry).dim) }
     ensures rows { IfOk result (λ s. s.rows ≡ xor_rows (vertices_of a.entry).dim (vertices_of a.entry).rows (vertices_of b.entry).rows) }
+    ensures cells { IfOk result (λ s. cells s.dim s.rows ≡ xor_cells (vertices_of a.entry).dim (cells (vertices_of a.entry).dim (vertices_of a.entry).rows) (cells (vertices_of a.entry).dim (vertices_of b.entry).rows)) }
+    ensures members { IfOk result (λ s. (p : List ℤ) → has s.rows p ≡ xor (has (vertices_of a.entry).rows p) (has (vertices_of b.entry).rows p)) }
 {
     let dim = a.dim();
     let room = a.flat.len().saturating_add(b.flat.len());
@@ -96,6 +101,8 @@ pub fn xor_into(old: Solid, a: Rows<'_>, b: Rows<'_>) -> Result<Solid, NoMemory>
     requires { (vertices_of a).dim ≡ (vertices_of b).dim }
     ensures dim { IfOk result (λ s. s.dim ≡ (vertices_of a.entry).dim) }
     ensures rows { IfOk result (λ s. s.rows ≡ xor_rows (vertices_of a.entry).dim (vertices_of a.entry).rows (vertices_of b.entry).rows) }
+    ensures cells { IfOk result (λ s. cells s.dim s.rows ≡ xor_cells (vertices_of a.entry).dim (cells (vertices_of a.entry).dim (vertices_of a.entry).rows) (cells (vertices_of a.entry).dim (vertices_of b.entry).rows)) }
+    ensures members { IfOk result (λ s. (p : List ℤ) → has s.rows p ≡ xor (has (vertices_of a.entry).rows p) (has (vertices_of b.entry).rows p)) }
 {
     let dim = a.dim();
     let mut out = old.into_flat();

@@ -1,10 +1,24 @@
 // The types: a list of rows that owns its numbers, and a view of rows that borrows them.
-ghost use Rattle.std.specs.Prelude.{◌≡◌, ℕ, ◌-◌, ◌%◌, ◌<◌, ◌≤◌, length};
+ghost use Rattle.std.specs.Prelude.{◌≡◌, ℕ, ◌-◌, ◌%◌, ◌<◌, ◌≤◌, length, pos};
+ghost use Rattle.evm_cells.specs.Limits.{limit};
 ghost use Rattle.evm_cells.specs.Vertices.{IsVertexList};
 ghost use Rattle.evm_rows.specs.Rows.{rows_of};
 
 use std::alloc::{AllocError, AllocFailed, Global};
 use std::marker::Model;
+
+/// The largest dimension of a solid.
+pub const DIM_MAX: usize = 6;
+
+/// The limit of coordinates in dimension `dim`: those of vertices go from minus the limit up to the limit, those of
+/// cells up to one less. It is 524288 in each dimension. Takes no memory.
+pub fn limit(_dim: usize) -> i32
+    requires low { 0 < _dim }
+    requires high { _dim ≤ 6 }
+    ensures { result ≡ pos (limit _dim) }
+{
+    524_288
+}
 
 /// There was no memory.
 #[derive(Clone, Copy, Debug, PartialEq, Eq)]
@@ -83,15 +97,18 @@ impl Model for Solid {
 }
 
 impl Solid {
-    ghost use Rattle.std.specs.Prelude.{◌≡◌, ◌≤◌, ◌<◌, []};
+    ghost use Rattle.std.specs.Prelude.{◌≡◌, ◌≤◌, ◌<◌, ◌-◌, ◌↔◌, ℤ, [], length, slice_index_or, IfOk, IsTrue};
+    ghost use Rattle.evm_cells.specs.Vertices.{evm, cells};
     ghost use Rattle.evm_rows.specs.View.{vertices_of};
-    ghost use Rattle.evm_rows.specs.Rows.{AreRows, rows_of};
+    ghost use Rattle.evm_rows.specs.Rows.{AreRows, IsSolid, rows_of};
 
+    /// The solid of dimension `dim` without cells. Takes no memory.
     pub fn empty(alloc: Global, dim: usize) -> Solid
         requires low { 0 < dim }
         requires high { dim ≤ 6 }
         ensures dim { result.dim ≡ dim }
         ensures rows { result.rows ≡ [] }
+        ensures cells { cells result.dim result.rows ≡ [] }
     {
         Solid {
             dim,
@@ -99,7 +116,7 @@ impl Solid {
         }
     }
 
-    // The solid of these numbers.
+    /// The solid of these rows, which are a vertex list: `flat` holds row after row, each of `dim` coordinates.
     pub fn from_rows(dim: usize, flat: Vec<i32>) -> Solid
         requires { AreRows flat.items dim 0 }
         ensures dim { result.dim ≡ dim }
@@ -108,7 +125,7 @@ impl Solid {
         Solid { dim, flat }
     }
 
-    // The numbers of this solid.
+    /// The numbers of this solid, row after row.
     pub fn into_flat(self) -> Vec<i32>
         ensures are_rows { AreRows result.items self.dim 0 }
         ensures rows { rows_of result.items self.dim 0 ≡ self.rows }
@@ -116,16 +133,40 @@ impl Solid {
         self.flat
     }
 
+    /// What the type keeps: the rows are a vertex list of dimension 1 to 6, and so the extreme vertices of its cells. It
+    /// does nothing, and is called where a proof needs these facts.
+    pub fn facts(&self)
+        ensures solid { IsSolid self.now }
+        ensures vertices { self.now.rows ≡ evm self.now.dim (cells self.now.dim self.now.rows) }
+    {
+        let _read = self.dim;
+    }
+
+    /// The dimension, 1 to 6.
     pub fn dim(&self) -> usize
         ensures { result ≡ self.now.dim }
     {
         self.dim
     }
 
-    pub fn len(&self) -> usize {
-        self.flat.len() / self.dim
+    /// The number of rows.
+    pub fn len(&self) -> usize
+        ensures { result ≡ length self.now.rows }
+    {
+        self.rows().len()
     }
 
+    /// The coordinate of a row, counted from 0, on an axis, counted from 1.
+    pub fn coord(&self, row: usize, axis: usize) -> i32
+        requires row { row < length self.now.rows }
+        requires low { 0 < axis }
+        requires high { axis ≤ self.now.dim }
+        ensures { (d : ℤ) → slice_index_or (slice_index_or self.now.rows row []) (axis - 1) d ≡ result }
+    {
+        self.rows().coord(row, axis)
+    }
+
+    /// The rows, borrowed.
     pub fn rows(&self) -> Rows<'_>
         ensures { vertices_of result ≡ self.now }
     {
@@ -134,5 +175,25 @@ impl Solid {
             width: self.dim,
             skip: 0,
         }
+    }
+
+    /// A second solid with these rows. Takes memory for its numbers once.
+    pub fn copy(&self, alloc: Global) -> Result<Solid, NoMemory>
+        ensures { IfOk result (λ s. s ≡ self.now) }
+    {
+        let mut flat = Vec::with_capacity(alloc, self.flat.len())?;
+        flat.extend_from_slice(self.flat.as_slice())?;
+        Ok(Solid {
+            dim: self.dim,
+            flat,
+        })
+    }
+
+    /// Whether the two have one dimension and the same rows, and so the same cells.
+    pub fn same(&self, other: &Solid) -> bool
+        ensures rows { IsTrue result ↔ (self.now ≡ other.now) }
+        ensures cells { IsTrue result ↔ ((self.now.dim ≡ other.now.dim) × (cells self.now.dim self.now.rows ≡ cells other.now.dim other.now.rows)) }
+    {
+        self.dim == other.dim && self.flat.as_slice() == other.flat.as_slice()
     }
 }
