@@ -72,11 +72,7 @@ impl<'a> Sweep<'a> {
     {
         let mut ahead = self.walk.again();
         let dim = self.section.dim();
-        let Some((low, couplet)) = ahead.next_couplet() else {
-            self.section = Solid::empty(alloc, dim);
-            return Ok(None);
-        };
-        let Some(high) = ahead.height() else {
+        let (Some((low, couplet)), Some(high)) = (ahead.next_couplet(), ahead.height()) else {
             self.walk = ahead;
             self.section = Solid::empty(alloc, dim);
             return Ok(None);
