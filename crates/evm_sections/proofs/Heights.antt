@@ -1,16 +1,16 @@
 -- The couplets of a vertex list are those of its cells
-use Rattle.std.proofs.Common.{◌≡◌, ℕ, zero, suc, ◌+◌, ◌-◌, ◌<◌, Bool, true, false, not, cond, ◌&&◌, ◌||◌, List, [], ◌∷◌, ◌++◌, length, map, filter, get_or, ℤ, pos, ◌-ℤ◌, neg_ℤ, ◌<ℤ◌, ◌≤ℤ◌, refl, sym, ap, ap₂, ◌∙◌, subst, arith, int_lt, int_eq, append-nil, ⊎_elim}
+use Rattle.std.proofs.Common.{◌≡◌, ℕ, suc, ◌+◌, Bool, true, false, not, cond, ◌&&◌, ◌||◌, List, [], ◌∷◌, ◌++◌, map, filter, get_or, ℤ, pos, ◌<ℤ◌, ◌≤ℤ◌, refl, sym, ap, ap₂, ◌∙◌, subst, arith, int_lt, int_eq, append-nil, ⊎_elim}
 use Rattle.std.specs.List.{list_any, list_all, AllByRecursion}
 use Rattle.std.proofs.lemmas.Bool.{cases_Bool}
 use Rattle.std.proofs.lemmas.Int.{ints as int_facts}
 use Rattle.evm_cells.specs.Places.{is_empty, without}
-use Rattle.evm_cells.specs.Limits.{limit, is_point, is_point_coord, point_coords, IsCellSet}
+use Rattle.evm_cells.specs.Limits.{is_point, is_point_coord, point_coords}
 use Rattle.evm_cells.specs.Vertices.{evm, cells, IsVertexList}
-use Rattle.evm_cells.specs.Sections.{couplet, cuts, slice, rows_at}
+use Rattle.evm_cells.specs.Sections.{couplet, cuts, rows_at}
 use Rattle.evm_cells.proofs.Xor.{and_first, and_second, and_both}
-use Rattle.evm_cells.proofs.Order.{rising, rising-filter, any-filter, same_lists, refuted}
+use Rattle.evm_cells.proofs.Order.{rising, rising-filter, any-filter, same_lists}
 use Rattle.evm_cells.proofs.Lists.{all_weaker}
-use Rattle.evm_cells.proofs.Coords.{strict_ints, eq_is, eq_yes, eq_no, lt_is, lt_yes, rising-point_coords, any-point_coords, point_is}
+use Rattle.evm_cells.proofs.Coords.{strict_ints, eq_is, eq_yes, eq_no, lt_is, lt_yes, rising-point_coords, any-point_coords}
 use Rattle.evm_cells.proofs.Universe.{absorb, point_parts, cell_set-cells}
 use Rattle.evm_cells.proofs.Core.{evm-cells, vertices-evm}
 use Rattle.evm_cells.proofs.Slices.{cell_set-couplet}

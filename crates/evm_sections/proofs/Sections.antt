@@ -1,12 +1,11 @@
 -- From one section of a cell set to the next, over the couplets that are left
-use Rattle.std.proofs.Common.{◌≡◌, ℕ, zero, suc, ◌+◌, ◌-◌, ◌<◌, Bool, true, false, cond, ◌&&◌, List, [], ◌∷◌, map, filter, Some, None, ℤ, pos, negsuc, neg_ℤ, ◌-ℤ◌, ◌+ℤ◌, ◌<ℤ◌, ◌≤ℤ◌, refl, sym, ap, ap₂, ◌∙◌, subst, arith, int_lt, int_eq}
-use Rattle.std.specs.List.{list_all, AllByRecursion}
+use Rattle.std.proofs.Common.{◌≡◌, ℕ, suc, ◌+◌, Bool, true, false, cond, List, [], ◌∷◌, Some, None, ℤ, pos, negsuc, neg_ℤ, ◌-ℤ◌, ◌+ℤ◌, ◌<ℤ◌, ◌≤ℤ◌, refl, sym, ap, ap₂, ◌∙◌, arith, int_lt}
+use Rattle.std.specs.List.{list_all}
 use Rattle.std.proofs.lemmas.Int.{ints as int_facts, by_lt_z}
-use Rattle.std.proofs.lemmas.Bool.{false≢true}
 use Rattle.evm_cells.specs.Limits.{limit, is_point_coord, is_cell_coord, IsCellSet}
 use Rattle.evm_cells.specs.Booleans.{xor, xor_cells, combine}
 use Rattle.evm_cells.specs.Vertices.{evm, cells, IsVertexList}
-use Rattle.evm_cells.specs.Sections.{couplet, cuts, slice, rows_at}
+use Rattle.evm_cells.specs.Sections.{couplet, slice}
 use Rattle.evm_cells.proofs.Xor.{and_first, and_second, and_both}
 use Rattle.evm_cells.proofs.Order.{refuted}
 use Rattle.evm_cells.proofs.Lists.{all_weaker}

@@ -1,5 +1,5 @@
 -- Dimension 0: one place
-use Rattle.std.proofs.Common.{◌≡◌, ℕ, Bool, true, false, not, cond, List, [], ◌∷◌, ℤ, filter, refl, sym, ap, ap₂, ◌∙◌}
+use Rattle.std.proofs.Common.{◌≡◌, Bool, true, false, not, cond, [], ◌∷◌, refl, ap, ap₂, ◌∙◌}
 use mathlib.Core.Bool.{beq}
 use Rattle.evm_cells.specs.Places.{has, same, each}
 use Rattle.evm_cells.specs.Limits.{every_cell, every_point, tuples}

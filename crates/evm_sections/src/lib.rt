@@ -1,128 +1,18 @@
-// The walk over the couplets of a view.
+//! Couplets, sections and slabs of a view, along its first axis.
+//!
+//! A cut is a height at which the section changes. The couplet of a cut is where the sections just below and just above
+//! it differ, and its extreme vertices are the rows of the view that begin with the height of the cut. A slab is the
+//! range between two neighbouring cuts, in which the section stays the same (couplets and sections after Aguilera and
+//! Ayala 1997, and Pérez-Aguila for n dimensions).
+//!
+//! Rows ascend, so those of a couplet stand one after another. A couplet is lent as a view of the same numbers that
+//! passes over one coordinate more; nothing is copied.
 #![tactic(auto)]
 
 pub mod marks;
-pub mod sweep;
+mod sweep;
+mod walk;
 
-ghost use Rattle.std.specs.Prelude.{◌≡◌, ℕ, ◌+◌, ◌-◌, ◌*◌, ◌%◌, ◌<◌, ◌≤◌, IsTrue, [], ◌∷◌, length, IfSome, IfNone, take, drop};
-ghost use Rattle.evm_cells.specs.Vertices.{cells};
-ghost use Rattle.evm_rows.specs.Rows.{rows_of, ascends};
-ghost use Rattle.evm_rows.specs.View.{vertices_of};
-ghost use Rattle.evm_sections.specs.Couplets.{couplets_of, couplets_in, first_height};
-
-use evm_rows::split_row;
-use evm_rows::Rows;
-use std::marker::Model;
-
-/// A walk over the couplets of a view, from the lowest up.
-#[derive(Drop)]
-pub struct Walk<'a> {
-    flat: &'a [i32],
-    width: usize,
-    skip: usize,
-}
-
-impl<'a> Model for Walk<'a> {
-    ghost use Rattle.std.specs.Prelude.{◌+◌, ◌-◌};
-    ghost use Rattle.evm_rows.specs.Rows.{rows_of};
-    ghost use Rattle.evm_sections.specs.Couplets.{Course, IsWalk, couplets_of};
-
-    ghost Value = { Course };
-
-    ghost view = { λ w. record { dim = w.width - (w.skip + 1); left = couplets_of (rows_of w.flat.now w.width w.skip) } };
-
-    ghost invariant = { λ w. IsWalk w.flat.now w.width w.skip };
-}
-
-impl<'a> Walk<'a> {
-    /// A walk over all couplets along the first axis.
-    pub fn of(a: Rows<'a>) -> Walk<'a>
-        requires { 1 < (vertices_of a).dim }
-        ensures dim { result.dim + 1 ≡ (vertices_of a.entry).dim }
-        ensures couplets { result.left ≡ couplets_in result.dim (cells (vertices_of a.entry).dim (vertices_of a.entry).rows) }
-        ensures left { result.left ≡ couplets_of (vertices_of a.entry).rows }
-    {
-        Walk {
-            flat: a.flat,
-            width: a.width,
-            skip: a.skip,
-        }
-    }
-
-    // A second walk over what is left.
-    pub fn again(&self) -> Walk<'a>
-        ensures { result ≡ self.now }
-    {
-        Walk {
-            flat: self.flat,
-            width: self.width,
-            skip: self.skip,
-        }
-    }
-
-    // The height of the next couplet.
-    pub fn height(&self) -> Option<i32>
-        ensures { result ≡ first_height self.now.left }
-    {
-        if self.flat.len() == 0 {
-            return None;
-        }
-        let (row, _) = split_row(self.flat, self.width, self.skip);
-        Some(first_of(row))
-    }
-
-    pub fn next_couplet(&mut self) -> Option<(i32, Rows<'a>)>
-        ensures dim { self.new.dim ≡ self.old.dim }
-        ensures some { IfSome result (λ p. self.old.left ≡ (p.0, (vertices_of p.1).rows) ∷ self.new.left) }
-        ensures same { IfSome result (λ p. (vertices_of p.1).dim ≡ self.old.dim) }
-        ensures none { IfNone result (self.old.left ≡ []) }
-    {
-        if self.flat.len() == 0 {
-            return None;
-        }
-        let (height, stretch, later) = first_stretch(self.flat, self.width, self.skip);
-        let couplet = Rows {
-            flat: stretch,
-            width: self.width,
-            skip: self.skip + 1,
-        };
-        self.flat = later;
-        Some((height, couplet))
-    }
-}
-
-// The first height, the numbers of its rows, and the numbers after them.
-fn first_stretch(flat: &[i32], width: usize, skip: usize) -> (i32, &[i32], &[i32])
-    requires some { 0 < length flat.now }
-    requires deep { skip + 1 < width }
-    requires narrow { width ≤ 6 }
-    requires whole { length flat.now % width ≡ 0 }
-    requires ascending { IsTrue (ascends (rows_of flat.now width skip)) }
-    ensures couplets { couplets_of (rows_of flat.now width skip) ≡ (result.0, rows_of result.1.now width (skip + 1)) ∷ couplets_of (rows_of result.2.now width skip) }
-    ensures stretch_whole { length result.1.now % width ≡ 0 }
-    ensures whole { length result.2.now % width ≡ 0 }
-    ensures ascending { IsTrue (ascends (rows_of result.2.now width skip)) }
-{
-    let (first, mut later) = split_row(flat, width, skip);
-    let height = first_of(first);
-    let mut taken = width;
-    while later.len() != 0 {
-        let (next, rest) = split_row(later, width, skip);
-        if first_of(next) != height {
-            break;
-        }
-        later = rest;
-        taken += width;
-    }
-    let (stretch, _) = flat.split_at(taken);
-    (height, stretch, later)
-}
-
-// The first number.
-#[inline(always)]
-pub fn first_of(row: &[i32]) -> i32
-    requires { 0 < length row.now }
-    ensures { row.now ≡ result ∷ drop 1 row.now }
-{
-    row[0]
-}
+pub use marks::Marks;
+pub use sweep::{Slab, Sweep};
+pub use walk::{Walk, first_of};

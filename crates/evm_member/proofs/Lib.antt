@@ -1,0 +1,4 @@
+pub mod Round
+pub mod Axes
+pub mod Steps
+pub mod Answer

@@ -1,0 +1,13 @@
+//! Membership: whether a solid fills a cell, and where a point stands.
+//!
+//! Both questions are answered by one pass over the rows of a view, without memory of their own.
+#![tactic(auto)]
+
+mod cell;
+mod compare;
+mod outcome;
+mod point;
+
+pub use cell::fills;
+pub use outcome::Place;
+pub use point::place;
