@@ -1,12 +1,12 @@
 -- The steps of the loops
-use Rattle.std.proofs.Common.{◌≡◌, ℕ, ◌+◌, ◌*◌, Bool, true, false, not, List, [], ◌∷◌, length, ℤ, ◌-ℤ◌, refl, sym, ap, ap₂, ◌∙◌, arith, Some, None}
+use Rattle.std.proofs.Common.{◌≡◌, ℕ, ◌+◌, ◌*◌, Bool, true, false, not, List, [], ◌∷◌, length, ℤ, ◌-ℤ◌, refl, sym, ap, ◌∙◌, arith, Some}
 use Rattle.std.specs.Prelude.{unsigned_abs}
 use Rattle.evm_cells.specs.Vertices.{cells}
 use Rattle.evm_cells.specs.Measures.{content}
 use Rattle.evm_rows.specs.Rows.{xor_rows}
 use Rattle.std.specs.Prelude.{if◌then◌else◌}
 use Rattle.evm_cells.specs.Booleans.{xor}
-use Rattle.evm_sections.specs.Couplets.{couplets_of, first_height, rest_of, AreSingle, mark}
+use Rattle.evm_sections.specs.Couplets.{first_height, rest_of, AreSingle, mark}
 use Rattle.evm_sections.proofs.Zero.{xor_rows-mark, cells-mark}
 use Rattle.evm_measure.proofs.Sums.{slab_sum}
 

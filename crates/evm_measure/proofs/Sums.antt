@@ -1,5 +1,5 @@
 -- The content and the boundary content by slabs and couplets, and their bounds by the limits
-use Rattle.std.proofs.Common.{◌≡◌, ℕ, zero, suc, ◌+◌, ◌*◌, ◌-◌, ◌^◌, ◌<◌, ◌≤◌, Bool, true, false, cond, not, ◌&&◌, count_by, ◌++◌, rules, List, [], ◌∷◌, length, map, flat_map, filter, sum_by, ℤ, pos, negsuc, neg_ℤ, ◌-ℤ◌, ◌+ℤ◌, ◌<ℤ◌, ◌≤ℤ◌, refl, sym, ap, ap₂, ◌∙◌, arith, int_lt, zero-add, suc-add, add-one, mul-suc, suc-mul, mul-zero, add_comm}
+use Rattle.std.proofs.Common.{◌≡◌, ℕ, zero, suc, ◌+◌, ◌*◌, ◌-◌, ◌^◌, ◌<◌, ◌≤◌, Bool, true, false, cond, not, count_by, ◌++◌, rules, List, [], ◌∷◌, length, map, filter, sum_by, ℤ, pos, negsuc, neg_ℤ, ◌-ℤ◌, ◌+ℤ◌, ◌<ℤ◌, ◌≤ℤ◌, refl, sym, ap, ap₂, ◌∙◌, arith, int_lt, zero-add, suc-add, add-one, mul-suc, suc-mul, mul-zero, add_comm}
 use Rattle.std.specs.Prelude.{unsigned_abs}
 use Rattle.std.specs.List.{list_all, range_with_len}
 use Rattle.std.proofs.Math.Nat.{pow-le-pow_right, pow-zero, pow-succ', mul-le-mul_right}
@@ -261,3 +261,6 @@ boundary-one V v =
     ∙ sym (single_faces (couplets_of V) (couplets_of-single V w (ascends_from V v.ascends)))
     ∙ (let q : face_sum 0 (couplets_of V) ≡ slab_sum (boundary 0) 0 (pos 0) [] (couplets_of V) + face_sum 0 (couplets_of V) = let z = no_slabs (pos 0) [] (couplets_of V) in omega arith in q)
     ∙ boundary_is_at 1 0 V (pos 0) (couplets_of V) refl v refl
+
+pub boundary-one_at : (m : ℕ) (V : List (List ℤ)) → m ≡ 1 → IsVertexList m V → length V ≡ boundary m (cells m V)
+boundary-one_at m V e v = let w : IsVertexList 1 V = rw e at v in boundary-one V w ∙ ap (λ k. boundary k (cells k V)) (sym e)
