@@ -24,6 +24,10 @@ fills And l r = l && r
 fills Sub l r = l && not r
 fills Xor l r = xor l r
 
+-- whether a Boolean changes, where a and b say which operands are filled, and c and d which of them change
+abbrev pub gain : (Bool → Bool → Bool) → Bool → Bool → Bool → Bool → Bool
+gain op a b c d = xor (op a b) (op (xor a c) (xor b d))
+
 -- the rows of a couplet, with its height before each
 abbrev pub under : ℤ → List (List ℤ) → List (List ℤ)
 under h rs = map (λ r. h ∷ r) rs
