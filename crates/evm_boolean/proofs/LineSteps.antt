@@ -6,7 +6,7 @@ use Rattle.evm_cells.proofs.Xor.{xor-false}
 use Rattle.evm_cells.proofs.Order.{rising}
 use Rattle.evm_cells.proofs.Coords.{eq_yes, eq_no}
 use Rattle.evm_rows.specs.Rows.{rows_of, flat_of, xor_rows, AreRows}
-use Rattle.evm_rows.proofs.Bridge.{are_rows-flat, vertices-xor}
+use Rattle.evm_rows.proofs.Bridge.{are_rows-flat, are_rows-nil, vertices-xor}
 use Rattle.evm_rows.proofs.RowsOrder.{Wide, rows_of-wide}
 use Rattle.evm_sections.proofs.Single.{wide-one}
 use Rattle.evm_boolean.proofs.Planes.{all_lower}
@@ -136,3 +136,8 @@ line_rows V C w e =
     let q : flat_of (xor_rows 1 V C) ≡ w = ap flat_of (sym e) ∙ flat_of-ones w in
     let P : List ℤ → Type 0 = λ f. AreRows f 1 0 in
     subst P q (are_rows-flat 1 (xor_rows 1 V C) (omega arith) (omega arith) (vertices-xor 1 V C))
+
+-- no numbers
+pub none_rows : (w : List ℤ) → length w ≡ 0 → AreRows w 1 0
+none_rows [] e = are_rows-nil 1 (omega arith) (omega arith)
+none_rows (x ∷ w) e = absurd (omega arith)

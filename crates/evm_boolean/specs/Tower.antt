@@ -47,3 +47,8 @@ after h ((k, c) ∷ cs) = if int_eq k h then cs else (k, c) ∷ cs
 abbrev pub section_at : ℕ → ℤ → List (List ℤ) → List (ℤ × List (List ℤ)) → List (List ℤ)
 section_at n h section [] = section
 section_at n h section ((k, c) ∷ cs) = if int_eq k h then xor_rows n section c else section
+
+-- the couplet at the height h, at couplets from h on; empty where there is none
+abbrev pub couplet_here : ℤ → List (ℤ × List (List ℤ)) → List (List ℤ)
+couplet_here h [] = []
+couplet_here h ((k, c) ∷ cs) = if int_eq k h then c else []
