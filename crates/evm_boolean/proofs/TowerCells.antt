@@ -8,7 +8,7 @@ use Rattle.evm_cells.specs.Limits.{is_point, is_cell, IsCellSet}
 use Rattle.evm_cells.specs.Booleans.{xor, xor_cells, combine}
 use Rattle.evm_cells.specs.Vertices.{evm, cells, IsVertexList}
 use Rattle.evm_cells.specs.Sections.{couplet, slice, rows_at}
-use Rattle.evm_cells.proofs.Xor.{and_first, and_second, and_both, and-false}
+use Rattle.evm_cells.proofs.Xor.{and_first, and_second, and_both, and-false, xor-false}
 use Rattle.evm_cells.proofs.Order.{rising}
 use Rattle.evm_cells.proofs.Lists.{all-append, all-map, all_weaker, all_always, rising-append}
 use Rattle.evm_cells.proofs.Coords.{eq_is, eq_yes, eq_no, lt_is, lt_yes, lt_no, by_order}
@@ -24,7 +24,7 @@ use Rattle.evm_sections.proofs.Heights.{heights, rows_at-append, rows_at-yes, ro
 use Rattle.evm_sections.proofs.Sections.{Above, stays, waits, steps, starts, bottom, outside, low_outside, combined_rows-evm, xor_rows-evm}
 use Rattle.evm_boolean.specs.declared.combine.Op2.{Op2}
 use Rattle.evm_boolean.specs.declared.combine.Op2.TheVariants.{Or, And, Sub, Xor}
-use Rattle.evm_boolean.specs.Tower.{under, lower, after, section_at, fills}
+use Rattle.evm_boolean.specs.Tower.{under, lower, after, section_at, couplet_here, fills}
 use Rattle.evm_boolean.proofs.Cuts.{From, from-left, from-right, lower-one, first-above}
 use Rattle.evm_boolean.proofs.TowerSteps.{cuts_into, cuts_of, tower, cuts_of-step, lower-none}
 
@@ -276,6 +276,26 @@ op-left_clear op n V W n0 e = rw n0 (sym (ap (λ X. evm n (combine op n X (cells
 pub op-right_clear : (op : Bool → Bool → Bool) (n : ℕ) (V W : List (List ℤ)) → W ≡ [] → ((a : Bool) → op a false ≡ false) → [] ≡ combined_rows op n V W
 unfolding combined_rows
 op-right_clear op n V W n0 e = rw n0 (sym (ap (λ X. evm n (combine op n (cells n V) X)) (cells-empty n) ∙ ap (evm n) (no_cells n op (cells n V) [] (λ r. ap (op (has (cells n V) r)) (has-any [] r) ∙ e (has (cells n V) r))) ∙ evm-empty n))
+
+-- two operands without rows
+pub op-both_none : (op : Bool → Bool → Bool) (n : ℕ) → op false false ≡ false → combined_rows op n [] [] ≡ []
+unfolding combined_rows
+op-both_none op n e =
+    ap₂ (λ X Y. evm n (combine op n X Y)) (cells-empty n) (cells-empty n)
+    ∙ ap (evm n) (no_cells n op [] [] (λ r. ap₂ op (has-any [] r) (has-any [] r) ∙ e)) ∙ evm-empty n
+
+-- an empty change
+pub xor-none : (n : ℕ) (V W : List (List ℤ)) → W ≡ [] → IsVertexList n V → V ≡ xor_rows n V W
+unfolding xor_rows
+xor-none n V W e v = op-right_none xor n V W e v xor-false
+
+-- the section above a height by the couplet there
+pub section-here : (n : ℕ) (h : ℤ) (s : List (List ℤ)) (cs : List (ℤ × List (List ℤ))) → IsVertexList n s → xor_rows n s (couplet_here h cs) ≡ section_at n h s cs
+section-here n h s [] v = sym (xor-none n s [] refl v)
+section-here n h s ((k, c) ∷ cs) v = ⊎_elim
+    (λ (t : int_eq k h ≡ true). rw t refl)
+    (λ (t : int_eq k h ≡ false). rw t (sym (xor-none n s [] refl v)))
+    (cases_Bool (int_eq k h))
 
 pub fills-none : (op : Op2) → fills op false false ≡ false
 unfolding xor

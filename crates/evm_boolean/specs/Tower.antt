@@ -24,6 +24,10 @@ fills And l r = l && r
 fills Sub l r = l && not r
 fills Xor l r = xor l r
 
+-- whether a Boolean changes, where a and b say which operands are filled, and c and d which of them change
+abbrev pub gain : (Bool → Bool → Bool) → Bool → Bool → Bool → Bool → Bool
+gain op a b c d = xor (op a b) (op (xor a c) (xor b d))
+
 -- the rows of a couplet, with its height before each
 abbrev pub under : ℤ → List (List ℤ) → List (List ℤ)
 under h rs = map (λ r. h ∷ r) rs
@@ -43,3 +47,8 @@ after h ((k, c) ∷ cs) = if int_eq k h then cs else (k, c) ∷ cs
 abbrev pub section_at : ℕ → ℤ → List (List ℤ) → List (ℤ × List (List ℤ)) → List (List ℤ)
 section_at n h section [] = section
 section_at n h section ((k, c) ∷ cs) = if int_eq k h then xor_rows n section c else section
+
+-- the couplet at the height h, at couplets from h on; empty where there is none
+abbrev pub couplet_here : ℤ → List (ℤ × List (List ℤ)) → List (List ℤ)
+couplet_here h [] = []
+couplet_here h ((k, c) ∷ cs) = if int_eq k h then c else []

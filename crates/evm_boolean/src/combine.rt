@@ -4,6 +4,7 @@ ghost use Rattle.evm_rows.specs.Rows.{combined_rows};
 ghost use Rattle.evm_rows.specs.View.{vertices_of};
 ghost use Rattle.evm_boolean.specs.Tower.{lower, after, section_at, fills, or_vertices, and_vertices, sub_vertices};
 
+use crate::plane::combine_planes;
 use crate::runs::combine_runs;
 use crate::tower::append_under;
 use evm_rows::{own, xor_into};
@@ -123,6 +124,9 @@ fn combine_into(
     let dim = a.dim();
     if dim == 1 {
         return combine_runs(op, a, b, room);
+    }
+    if dim == 2 {
+        return combine_planes(alloc, op, a, b, room);
     }
     let mut left = Walk::of(a);
     let mut right = Walk::of(b);

@@ -1,24 +1,25 @@
 -- The steps of the loops
-use Rattle.std.proofs.Common.{◌≡◌, ℕ, ◌+◌, ◌*◌, Bool, true, false, not, List, [], ◌∷◌, length, ℤ, ◌-ℤ◌, refl, sym, ap, ap₂, ◌∙◌, arith, Some, None}
+use Rattle.std.proofs.Common.{◌≡◌, ℕ, ◌+◌, ◌*◌, Bool, true, false, not, List, [], ◌∷◌, length, ℤ, ◌-ℤ◌, refl, sym, ap, ◌∙◌, arith, Some}
 use Rattle.std.specs.Prelude.{unsigned_abs}
 use Rattle.evm_cells.specs.Vertices.{cells}
+use Rattle.evm_cells.specs.Measures.{content}
 use Rattle.evm_rows.specs.Rows.{xor_rows}
 use Rattle.std.specs.Prelude.{if◌then◌else◌}
 use Rattle.evm_cells.specs.Booleans.{xor}
-use Rattle.evm_sections.specs.Couplets.{couplets_of, first_height, rest_of, AreSingle, mark}
+use Rattle.evm_sections.specs.Couplets.{first_height, rest_of, AreSingle, mark}
 use Rattle.evm_sections.proofs.Zero.{xor_rows-mark, cells-mark}
 use Rattle.evm_measure.proofs.Sums.{slab_sum}
 
 pub slab_more : (n : ℕ) (low h : ℤ) (s c t : List (List ℤ)) (left later : List (ℤ × List (List ℤ))) (total part all : ℕ) → left ≡ (h, c) ∷ later → part ≡ length (cells n s) → t ≡ xor_rows n s c
-    → total + slab_sum n low s left ≡ all → (total + part * unsigned_abs (h -ℤ low)) + slab_sum n h t later ≡ all
+    → total + slab_sum content n low s left ≡ all → (total + part * unsigned_abs (h -ℤ low)) + slab_sum content n h t later ≡ all
 slab_more n low h s c t left later total part all e p g so_far =
-    let f : total + (length (cells n s) * unsigned_abs (h -ℤ low) + slab_sum n h (xor_rows n s c) later) ≡ all = rw e at so_far in
-    rw (g, p) (sym (add_assoc total (length (cells n s) * unsigned_abs (h -ℤ low)) (slab_sum n h (xor_rows n s c) later)) ∙ f)
+    let f : total + (length (cells n s) * unsigned_abs (h -ℤ low) + slab_sum content n h (xor_rows n s c) later) ≡ all = rw e at so_far in
+    rw (g, p) (sym (add_assoc total (length (cells n s) * unsigned_abs (h -ℤ low)) (slab_sum content n h (xor_rows n s c) later)) ∙ f)
   where
     add_assoc : (a b c : ℕ) → a + (b + c) ≡ (a + b) + c
     add_assoc a b c = omega arith
 
-pub slab_done : (n : ℕ) (low : ℤ) (s : List (List ℤ)) (left : List (ℤ × List (List ℤ))) (total all : ℕ) → left ≡ [] → total + slab_sum n low s left ≡ all → total ≡ all
+pub slab_done : (n : ℕ) (low : ℤ) (s : List (List ℤ)) (left : List (ℤ × List (List ℤ))) (total all : ℕ) → left ≡ [] → total + slab_sum content n low s left ≡ all → total ≡ all
 slab_done n low s left total all e so_far =
     let f : total + 0 ≡ all = rw e at so_far in omega arith
 
@@ -42,7 +43,7 @@ held-mark on far = at on ∙ ap (λ X. length X * far) (sym (cells-mark on))
 
 pub run_more : (low high : ℤ) (on : Bool) (left : List (ℤ × List (List ℤ))) (total part all : ℕ) → AreSingle left → Some high ≡ first_height left
     → part ≡ (if on then unsigned_abs (high -ℤ low) else 0)
-    → total + slab_sum 0 low (mark on) left ≡ all → (total + part) + slab_sum 0 high (mark (not on)) (rest_of left) ≡ all
+    → total + slab_sum content 0 low (mark on) left ≡ all → (total + part) + slab_sum content 0 high (mark (not on)) (rest_of left) ≡ all
 run_more low high on [] total part all a e p so_far = cc
 run_more low high on ((k, c) ∷ cs) total part all a e p so_far =
     let q : high ≡ k = cc in
@@ -50,8 +51,8 @@ run_more low high on ((k, c) ∷ cs) total part all a e p so_far =
     let far : ℕ = unsigned_abs (k -ℤ low) in
     let f : part ≡ length (cells 0 (mark on)) * far = p ∙ ap (λ z. if on then unsigned_abs (z -ℤ low) else 0) q ∙ held-mark on far in
     let t : xor_rows 0 (mark on) c ≡ mark (not on) = ap (xor_rows 0 (mark on)) one ∙ xor_rows-mark on true ∙ flipped on in
-    let g : total + (length (cells 0 (mark on)) * far + slab_sum 0 k (mark (not on)) cs) ≡ all = ap (λ X. total + (length (cells 0 (mark on)) * far + slab_sum 0 k X cs)) (sym t) ∙ so_far in
-    rw (q, f) (sums total (length (cells 0 (mark on)) * far) (slab_sum 0 k (mark (not on)) cs) ∙ g)
+    let g : total + (length (cells 0 (mark on)) * far + slab_sum content 0 k (mark (not on)) cs) ≡ all = ap (λ X. total + (length (cells 0 (mark on)) * far + slab_sum content 0 k X cs)) (sym t) ∙ so_far in
+    rw (q, f) (sums total (length (cells 0 (mark on)) * far) (slab_sum content 0 k (mark (not on)) cs) ∙ g)
   where
     sums : (a b c : ℕ) → (a + b) + c ≡ a + (b + c)
     sums a b c = omega arith

@@ -1,13 +1,12 @@
-// The content of a view, by recursion on its dimension.
+//! Content and boundary content of a view, by recursion on its dimension.
 #![tactic(auto)]
 
 ghost use Rattle.std.specs.Prelude.{◌≡◌, ◌-ℤ◌, unsigned_abs, IfOk, if◌then◌else◌};
 ghost use Rattle.evm_cells.specs.Vertices.{cells};
-ghost use Rattle.evm_cells.specs.Measures.{content};
+ghost use Rattle.evm_cells.specs.Measures.{content, boundary};
 ghost use Rattle.evm_rows.specs.View.{vertices_of};
 
-use evm_rows::xor;
-use evm_rows::{NoMemory, Rows, Solid};
+use evm_rows::{NoMemory, Rows, Solid, xor_into};
 use evm_sections::Walk;
 use evm_sections::marks::Marks;
 use std::alloc::Global;
@@ -41,7 +40,14 @@ fn runs(a: Rows<'_>) -> u128
     total
 }
 
-/// The number of the cells: over the slabs, the section's content times the slab's height.
+/// The content: the number of unit cells. It is at most `2^120`.
+///
+/// It is the sum, over the slabs between neighbouring cuts of the first axis, of the content of the section times the height of
+/// the slab (Aguilera and Ayala 1997; in n dimensions Pérez-Aguila). In dimension 1 it is the length of the runs.
+///
+/// One walk over the couplets, and for each slab the content of its section, of one dimension less. Each level of this recursion
+/// holds two sections, flat lists of `i32` whose rooms are used in turn, so it allocates only while they grow. No couplet is
+/// copied. The one error is want of memory.
 pub fn content(alloc: Global, a: Rows<'_>) -> Result<u128, NoMemory>
     ensures { IfOk result (λ n. n ≡ content (cells (vertices_of a.entry).dim (vertices_of a.entry).rows)) }
 {
@@ -51,12 +57,48 @@ pub fn content(alloc: Global, a: Rows<'_>) -> Result<u128, NoMemory>
     }
     let mut walk = Walk::of(a);
     let mut section = Solid::empty(alloc, dim - 1);
+    let mut room = Solid::empty(alloc, dim - 1);
     let mut low = 0i32;
     let mut total = 0u128;
     while let Some((high, couplet)) = walk.next_couplet() {
         let part = content(alloc, section.rows())?;
         total += part * u128::from(high.abs_diff(low));
-        section = xor(alloc, section.rows(), couplet)?;
+        let next = xor_into(room, section.rows(), couplet)?;
+        room = section;
+        section = next;
+        low = high;
+    }
+    Ok(total)
+}
+
+/// The boundary content: over all axes, the number of pairs of neighbouring places of which exactly one is filled. A place
+/// past the limits counts as empty. It is below `2^124`.
+///
+/// The faces across the first axis are the cells of the couplets. Those along the other axes lie in the sections, once for each
+/// unit of their slab's height. So it is the sum of the contents of the couplets and, over the slabs, of the boundary content of
+/// the section times the height of the slab (this project's own). In dimension 1 it is the number of vertices.
+///
+/// One walk serves both sums. Memory is as for [`content`]: two sections a level, whose rooms are used in turn, and no copy of a
+/// couplet. The one error is want of memory.
+pub fn boundary(alloc: Global, a: Rows<'_>) -> Result<u128, NoMemory>
+    ensures { IfOk result (λ n. n ≡ boundary (vertices_of a.entry).dim (cells (vertices_of a.entry).dim (vertices_of a.entry).rows)) }
+{
+    let dim = a.dim();
+    if dim == 1 {
+        return Ok(a.len() as u128);
+    }
+    let mut walk = Walk::of(a);
+    let mut section = Solid::empty(alloc, dim - 1);
+    let mut room = Solid::empty(alloc, dim - 1);
+    let mut low = 0i32;
+    let mut total = 0u128;
+    while let Some((high, couplet)) = walk.next_couplet() {
+        let along = boundary(alloc, section.rows())?;
+        let across = content(alloc, couplet)?;
+        total += along * u128::from(high.abs_diff(low)) + across;
+        let next = xor_into(room, section.rows(), couplet)?;
+        room = section;
+        section = next;
         low = high;
     }
     Ok(total)

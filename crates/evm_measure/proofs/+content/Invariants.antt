@@ -1,5 +1,6 @@
 use Rattle.std.proofs.Common.{◌≡◌, ◌+◌, ◌-◌, ◌<◌, ◌≤◌, ◌^◌, length}
 use Rattle.evm_cells.specs.Vertices.{cells}
+use Rattle.evm_cells.specs.Measures.{content}
 use Rattle.evm_rows.specs.Rows.{rows_of}
 use Rattle.evm_measure.proofs.Sums.{slab_sum}
 use Rattle.evm_measure.proofs.+content.Given as goal
@@ -13,7 +14,7 @@ invariant-loop-high l = record {
   dims : l.walk.dim ≡ l.section.dim;
   deep : l.section.dim + 1 ≡ l.fn.a.width - l.fn.a.skip;
   fits : length (cells (l.fn.a.width - l.fn.a.skip) (rows_of l.fn.a.flat.now l.fn.a.width l.fn.a.skip)) ≤ 2 ^ 120;
-  so_far : l.total + slab_sum l.section.dim l.low l.section.rows l.walk.left ≡ length (cells (l.fn.a.width - l.fn.a.skip) (rows_of l.fn.a.flat.now l.fn.a.width l.fn.a.skip));
+  so_far : l.total + slab_sum content l.section.dim l.low l.section.rows l.walk.left ≡ length (cells (l.fn.a.width - l.fn.a.skip) (rows_of l.fn.a.flat.now l.fn.a.width l.fn.a.skip));
 }
 
 abbrev pub decreases-loop-high : goal.decreases-loop-high

@@ -1,8 +1,7 @@
-use Rattle.std.proofs.Common.{◌≡◌, ℕ, ℤ, ◌+◌, ◌-◌, Bool, true, false, not, Some, List, [], refl, sym, ap, ◌∙◌, arith, rules, zero-add, w32}
+use Rattle.std.proofs.Common.{refl, sym, ◌∙◌, arith, rules, zero-add, w32}
 use mir.Val.{SFits}
 use Rattle.evm_cells.specs.Vertices.{IsVertexList}
 use Rattle.evm_rows.specs.Rows.{rows_of}
-use Rattle.evm_sections.specs.Couplets.{AreSingle}
 use Rattle.evm_sections.proofs.Bits.{same32}
 use Rattle.evm_measure.proofs.Sums.{content_is_at, content-fits}
 use Rattle.evm_measure.proofs.Steps.{run_more, single_rest}

@@ -1,3 +1,5 @@
+use Rattle.evm_boolean.proofs.Planes.{turning_done}
+use Rattle.evm_boolean.proofs.Lines.{built_more}
 use Rattle.evm_rows.specs.View.{vertices_of}
 use Rattle.evm_boolean.proofs.Answer.{or_is}
 use Rattle.evm_boolean.proofs.combine.or.Goals as goal

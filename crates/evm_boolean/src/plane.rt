@@ -1,0 +1,99 @@
+// Booleans of views of dimension 2. A section is a list of ascending numbers, and a height costs what its couplets span,
+// beside the copy of a section.
+ghost use Rattle.std.specs.Prelude.{◌≡◌, [], IfOk};
+ghost use Rattle.evm_rows.specs.Rows.{AreRows, rows_of, xor_rows, combined_rows};
+ghost use Rattle.evm_rows.specs.View.{vertices_of};
+ghost use Rattle.evm_boolean.specs.Tower.{after, couplet_here, fills};
+
+use crate::combine::{Op2, lower_of};
+use crate::line::{append_gain, changed};
+use evm_rows::{NoMemory, Rows, Solid};
+use evm_sections::Walk;
+use std::alloc::{AllocError, Global};
+
+// A view of dimension 1 without rows, that lives as long as another view.
+fn none_of<'a>(a: Rows<'a>) -> Rows<'a>
+    ensures dim { (vertices_of result).dim ≡ 1 }
+    ensures rows { (vertices_of result).rows ≡ [] }
+{
+    let (nothing, _) = a.flat.split_at(0);
+    Rows {
+        flat: nothing,
+        width: 1,
+        skip: 0,
+    }
+}
+
+// The couplet at the height, or `none`, which is empty. The walk goes past the height.
+fn couplet_at<'a>(walk: &mut Walk<'a>, height: i32, none: Rows<'a>) -> Rows<'a>
+    requires line { walk.old.dim ≡ 1 }
+    requires none_line { (vertices_of none).dim ≡ 1 }
+    requires none { (vertices_of none).rows ≡ [] }
+    ensures walk_dim { walk.new.dim ≡ 1 }
+    ensures left { walk.new.left ≡ after height walk.old.left }
+    ensures dim { (vertices_of result).dim ≡ 1 }
+    ensures rows { (vertices_of result).rows ≡ couplet_here height walk.old.left }
+{
+    if walk.height() != Some(height) {
+        return none;
+    }
+    match walk.next_couplet() {
+        None => none,
+        Some((_, couplet)) => couplet,
+    }
+}
+
+// The line after a change, and room for another one.
+fn line_after(
+    line: Vec<i32>,
+    spare: Vec<i32>,
+    change: Rows<'_>,
+) -> Result<(Vec<i32>, Vec<i32>), AllocError>
+    requires line { AreRows line.items 1 0 }
+    requires change { (vertices_of change).dim ≡ 1 }
+    ensures are_rows { IfOk result (λ p. AreRows p.0.items 1 0) }
+    ensures rows { IfOk result (λ p. rows_of p.0.items 1 0 ≡ xor_rows 1 (rows_of line.items 1 0) (vertices_of change.entry).rows) }
+{
+    if change.flat.len() == 0 {
+        return Ok((line, spare));
+    }
+    let next = changed(spare, &line, change)?;
+    Ok((next, line))
+}
+
+// The Boolean of two views of dimension 2, in the room of a solid that is done with.
+pub fn combine_planes(
+    alloc: Global,
+    op: Op2,
+    a: Rows<'_>,
+    b: Rows<'_>,
+    room: Solid,
+) -> Result<Solid, NoMemory>
+    requires left { (vertices_of a).dim ≡ 2 }
+    requires right { (vertices_of b).dim ≡ 2 }
+    ensures dim { IfOk result (λ s. s.dim ≡ 2) }
+    ensures rows { IfOk result (λ s. s.rows ≡ combined_rows (fills op) 2 (vertices_of a.entry).rows (vertices_of b.entry).rows) }
+{
+    let none_a = none_of(a);
+    let none_b = none_of(b);
+    let mut left = Walk::of(a);
+    let mut right = Walk::of(b);
+    let mut line_a = Vec::new(alloc);
+    let mut line_b = Vec::new(alloc);
+    let mut spare = Vec::new(alloc);
+    let mut out = room.into_flat();
+    out.clear();
+    while let Some(height) = lower_of(left.height(), right.height()) {
+        let change_a = couplet_at(&mut left, height, none_a);
+        let change_b = couplet_at(&mut right, height, none_b);
+        append_gain(
+            &mut out, op, height, &line_a, &line_b, change_a, change_b,
+        )?;
+        let (next_a, old_a) = line_after(line_a, spare, change_a)?;
+        line_a = next_a;
+        let (next_b, old_b) = line_after(line_b, old_a, change_b)?;
+        line_b = next_b;
+        spare = old_b;
+    }
+    Ok(Solid::from_rows(2, out))
+}
