@@ -1,21 +1,20 @@
 -- The order of rows as the one of places, and what a merge means on cells
-use Rattle.std.proofs.Common.{◌≡◌, ℕ, ◌-◌, ◌%◌, ◌<◌, ◌≤◌, ◌*◌, Bool, true, false, ◌&&◌, ◌||◌, List, [], ◌∷◌, length, ℤ, refl, sym, ap, ap₂, ◌∙◌, subst, arith, int_lt, int_eq, ⊎_elim}
+use Rattle.std.proofs.Common.{◌≡◌, ℕ, ◌-◌, ◌<◌, ◌≤◌, Bool, true, false, ◌&&◌, ◌||◌, List, [], ◌∷◌, length, ℤ, refl, sym, ap, ap₂, ◌∙◌, arith, int_lt, int_eq}
 use Rattle.std.specs.declared.cmp.Ordering.{Ordering}
 use Rattle.std.specs.declared.cmp.Ordering.TheVariants.{Less, Equal, Greater}
 use Rattle.std.specs.Ordering.{int_cmp, is_lt, is_eq, ordering_then}
-use Rattle.std.specs.List.{list_all, list_any}
-use Rattle.std.proofs.lemmas.Bool.{and_from, cases_Bool}
+use Rattle.std.specs.List.{list_all}
+use Rattle.std.proofs.lemmas.Bool.{and_from}
 use native.Mathlib.Nat.{mul-mod_left}
 use Rattle.evm_cells.specs.Places.{same, each, before, ascending, has}
-use Rattle.evm_cells.specs.Limits.{is_point, IsCellSet}
+use Rattle.evm_cells.specs.Limits.{is_point}
 use Rattle.evm_cells.specs.Booleans.{xor, combine, xor_cells}
-use Rattle.evm_cells.specs.Vertices.{evm, cells, odd, IsVertexList}
+use Rattle.evm_cells.specs.Vertices.{cells, odd, IsVertexList}
 use Rattle.evm_cells.proofs.Xor.{and_first, and_second, and_both}
-use Rattle.evm_cells.proofs.Universe.{point_parts, cell_set-cells}
-use Rattle.evm_cells.proofs.Combine.{xor_vertices, cell_set-combine, cell_set-xor}
+use Rattle.evm_cells.proofs.Universe.{point_parts}
+use Rattle.evm_cells.proofs.Combine.{xor_vertices, cell_set-combine}
 use Rattle.evm_cells.proofs.Core.{vertices-evm}
-use Rattle.evm_rows.specs.Rows.{rows_of, flat_of, row_cmp, ascends, has_row, differ, merge_xor, AreRows, combined_rows, xor_rows}
-use Rattle.evm_rows.proofs.RowsLaws.{rows_of-nil}
+use Rattle.evm_rows.specs.Rows.{flat_of, row_cmp, ascends, has_row, differ, merge_xor, AreRows, combined_rows, xor_rows}
 use Rattle.evm_rows.proofs.RowsOrder.{AllAbove, ascends-parts, merge_xor-ascends, Wide, rows_of-flat_of, length-flat_of}
 use Rattle.evm_rows.proofs.RowsMembers.{has_row-merge_xor}
 

@@ -1,17 +1,15 @@
 -- Lines with an odd number of rows, by groups of rows that share their first numbers.
-use Rattle.std.proofs.Common.{◌≡◌, ℕ, zero, suc, ◌+◌, ◌-◌, ◌*◌, ◌/◌, ◌%◌, ◌<◌, ◌≤◌, Bool, true, false, not, ◌&&◌, ◌||◌, List, [], ◌∷◌, ◌++◌, length, take, drop, get_or, map, count_by, ℤ, int_eq, int_lt, refl, sym, ap, ap₂, ◌∙◌, subst, arith, ⊎_elim, ◌⊎◌, length-take, length-drop, length-append, take-add}
+use Rattle.std.proofs.Common.{◌≡◌, ℕ, zero, suc, ◌+◌, ◌-◌, ◌/◌, ◌%◌, ◌<◌, ◌≤◌, Bool, true, false, not, ◌&&◌, List, [], ◌∷◌, ◌++◌, length, take, drop, map, count_by, ℤ, int_eq, int_lt, refl, sym, ap, ap₂, ◌∙◌, subst, arith, ⊎_elim, ◌⊎◌, length-drop, length-append, take-add}
 use Rattle.std.specs.List.{list_all}
 use Rattle.std.specs.Bool.{MatchBool}
-use Rattle.std.specs.List.Sorted.{IsPermutation, IsSorted}
-use Rattle.std.specs.Cmp.Lexicographic.{slice_cmp}
-use Rattle.std.specs.Ordering.{int_cmp}
+use Rattle.std.specs.List.Sorted.{IsPermutation}
 use Rattle.std.proofs.lemmas.List.{take-append-drop, take_at, drop_at, take-append-le, drop-append-le, take_all, drop_all, length-take-le}
-use Rattle.std.proofs.lemmas.Bool.{or_cases, false≢true, true≢false, cases_Bool}
+use Rattle.std.proofs.lemmas.Bool.{or_cases, false≢true, true≢false}
 use denote.Ref.{Bor}
 use Rattle.evm_cells.specs.Places.{same, each, without, before, ascending}
 use Rattle.evm_cells.specs.Booleans.{xor}
 use Rattle.evm_cells.specs.Vertices.{odd}
-use Rattle.evm_cells.proofs.Xor.{xsum, xsum-cons, xsum-nil, xsum-same_on, odd-count, odd-zero, odd-more, and_first, and_second, and_both, and_assoc, and-false, and-true, xor-false, false-xor}
+use Rattle.evm_cells.proofs.Xor.{xsum, xsum-cons, xsum-nil, xsum-same_on, odd-count, odd-zero, odd-more, and_first, and_second, and_both, and_assoc, and-false, xor-false, false-xor}
 use Rattle.evm_cells.proofs.Sum.{xsum-append, xsum-map, xsum-and_left, xsum-none}
 use Rattle.evm_cells.proofs.Order.{refuted}
 use Rattle.evm_cells.proofs.Lists.{all_weaker, all-append}
@@ -19,7 +17,7 @@ use Rattle.evm_cells.proofs.Places.{strict_places}
 use Rattle.evm_cells.proofs.Coords.{strict_ints, eq_is}
 use Rattle.evm_rows.specs.Rows.{rows_after, rows_of}
 use Rattle.evm_rows.specs.Check.{IsEvenOn, HasOddLine}
-use Rattle.evm_rows.specs.Groups.{HasOddPlace, IsPaired, IsFrontGroup, head_of, targets, steady}
+use Rattle.evm_rows.specs.Groups.{HasOddPlace, IsPaired, IsFrontGroup, head_of, targets}
 use Rattle.evm_rows.proofs.RowsLaws.{rows_of-cons, rows_of-nil, rows_of-none, whole-first, whole-rest}
 use Rattle.evm_rows.proofs.RowsOrder.{Wide, rows_of-wide}
 use Rattle.evm_rows.proofs.RowsPlaces.{length-rows_of, quotient}

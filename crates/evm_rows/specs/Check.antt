@@ -1,5 +1,5 @@
 -- When numbers are refused as the rows of a vertex list, and why.
-use Rattle.std.specs.Prelude.{◌≡◌, ℕ, ◌-◌, ◌<◌, ◌≤◌, Bool, true, false, List, [], length, get_or, count_by, ℤ}
+use Rattle.std.specs.Prelude.{◌≡◌, ℕ, ◌-◌, ◌<◌, ◌≤◌, true, false, List, [], length, get_or, count_by, ℤ}
 use Rattle.std.specs.List.{list_all}
 use Rattle.evm_cells.specs.Places.{same, before, ascending, without}
 use Rattle.evm_cells.specs.Limits.{is_point}

@@ -1,5 +1,5 @@
 -- Rows that share their first coordinates, and places that occur an odd number of times.
-use Rattle.std.specs.Prelude.{◌≡◌, ℕ, ◌<◌, Bool, true, false, not, ◌&&◌, List, [], ◌∷◌, ◌++◌, map, take, length, get_or, count_by, ℤ}
+use Rattle.std.specs.Prelude.{◌≡◌, ℕ, Bool, true, false, not, ◌&&◌, List, [], ◌∷◌, ◌++◌, map, take, length, get_or, count_by, ℤ}
 use Rattle.std.specs.List.{list_all}
 use Rattle.evm_cells.specs.Places.{same, before}
 use Rattle.evm_cells.specs.Vertices.{odd}

@@ -1,5 +1,5 @@
 -- Rows of whole numbers in a flat list, and their exclusive or
-use Rattle.std.specs.Prelude.{◌≡◌, ℕ, ◌+◌, ◌-◌, ◌%◌, ◌<◌, ◌≤◌, suc, zero, Bool, true, ◌&&◌, IsTrue, ℤ, List, [], ◌∷◌, ◌++◌, length, take, drop, Option, Some, None, if◌then◌else◌, ◌||◌, not, false}
+use Rattle.std.specs.Prelude.{◌≡◌, ℕ, ◌-◌, ◌%◌, ◌<◌, ◌≤◌, suc, zero, Bool, true, ◌&&◌, ℤ, List, [], ◌∷◌, ◌++◌, length, take, drop, ◌||◌, not, false}
 use Rattle.std.specs.declared.cmp.Ordering.{Ordering}
 use Rattle.std.specs.declared.cmp.Ordering.TheVariants.{Less, Equal, Greater}
 use Rattle.std.specs.Ordering.{int_cmp, is_lt, is_eq}

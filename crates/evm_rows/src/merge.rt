@@ -1,4 +1,4 @@
-// The exclusive or of two views.
+// The exclusive or of two views, and rows taken off flat numbers.
 ghost use Rattle.std.specs.Prelude.{◌≡◌, ℕ, ◌+◌, ◌-◌, ◌%◌, ◌<◌, ◌≤◌, [], ◌∷◌, ◌++◌, length, take, drop, IfOk, OnOk, ℤ, List};
 ghost use Rattle.evm_cells.specs.Places.{has};
 ghost use Rattle.evm_cells.specs.Booleans.{xor, xor_cells};
@@ -10,7 +10,8 @@ use crate::solid::{NoMemory, Rows, Solid};
 use std::alloc::{AllocError, Global};
 use std::cmp::Ordering;
 
-// The first row, and the numbers after it.
+/// The first row of flat numbers without its first `skip` numbers, and the numbers after that row. Rows have `width`
+/// numbers. Copies nothing.
 #[inline(always)]
 #[tactic(auto, using(crate::proofs::RowsLaws::row_laws))]
 pub fn split_row(flat: &[i32], width: usize, skip: usize) -> (&[i32], &[i32])
@@ -30,7 +31,9 @@ pub fn split_row(flat: &[i32], width: usize, skip: usize) -> (&[i32], &[i32])
     (row, rest)
 }
 
-// Appends each run of `width` numbers of `flat` without its first `skip`.
+/// Appends the rows of flat numbers to `out`: each run of `width` numbers without its first `skip`.
+///
+/// Takes memory only where `out` has no room left. After want of memory `out` may have some of the rows.
 pub fn append_rows(
     out: &mut Vec<i32>,
     flat: &[i32],
@@ -81,7 +84,10 @@ fn merged(mut out: Vec<i32>, a: Rows<'_>, b: Rows<'_>) -> Result<Vec<i32>, Alloc
     Ok(out)
 }
 
-/// The exclusive or of the cells.
+/// The exclusive or of two solids of one dimension: the cells that just one of them has. Its rows are those that just
+/// one of the two lists has, by one merge.
+///
+/// Takes memory for as many numbers as both have, once.
 pub fn xor(alloc: Global, a: Rows<'_>, b: Rows<'_>) -> Result<Solid, NoMemory>
     requires { (vertices_of a).dim ≡ (vertices_of b).dim }
     ensures dim { IfOk result (λ s. s.dim ≡ (vertices_of a.entry).dim) }
@@ -96,7 +102,10 @@ pub fn xor(alloc: Global, a: Rows<'_>, b: Rows<'_>) -> Result<Solid, NoMemory>
     Ok(Solid::from_rows(dim, flat))
 }
 
-/// The exclusive or of the cells, in the room of a solid that is done with.
+/// The exclusive or of two solids of one dimension, as `xor`, in the room of a solid that is done with. What `old` was
+/// does not matter.
+///
+/// Takes memory only where that room is too small. After want of memory `old` is gone.
 pub fn xor_into(old: Solid, a: Rows<'_>, b: Rows<'_>) -> Result<Solid, NoMemory>
     requires { (vertices_of a).dim ≡ (vertices_of b).dim }
     ensures dim { IfOk result (λ s. s.dim ≡ (vertices_of a.entry).dim) }
@@ -111,12 +120,13 @@ pub fn xor_into(old: Solid, a: Rows<'_>, b: Rows<'_>) -> Result<Solid, NoMemory>
     Ok(Solid::from_rows(dim, flat))
 }
 
-/// A solid that owns the rows of a view.
+/// A solid that owns a copy of the rows of a view. Takes memory for them once.
 pub fn own(alloc: Global, a: Rows<'_>) -> Result<Solid, NoMemory>
     ensures dim { IfOk result (λ s. s.dim ≡ (vertices_of a.entry).dim) }
     ensures rows { IfOk result (λ s. s.rows ≡ (vertices_of a.entry).rows) }
 {
-    let mut flat = Vec::new(alloc);
+    let dim = a.dim();
+    let mut flat = Vec::with_capacity(alloc, a.len() * dim)?;
     append_rows(&mut flat, a.flat, a.width, a.skip)?;
-    Ok(Solid::from_rows(a.dim(), flat))
+    Ok(Solid::from_rows(dim, flat))
 }

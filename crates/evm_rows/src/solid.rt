@@ -36,11 +36,19 @@ impl<T: Drop> From<AllocFailed<T>> for NoMemory {
     }
 }
 
-/// A view of rows in a borrowed slice: each run of `width` numbers without its first `skip`.
+/// A view of rows in a borrowed slice: each run of `width` numbers without its first `skip`. So a couplet is a stretch of
+/// its parent's slice, read one coordinate further in.
+///
+/// The type keeps that at least one coordinate is left, that a row has at most 6 numbers, that the slice holds whole
+/// rows, and that what is left of them is a vertex list: strictly ascending, in the limits, and even on every line
+/// parallel to an axis (the extreme vertices of Aguilera and Ayala, 1997).
 #[derive(Clone, Copy)]
 pub struct Rows<'a> {
+    /// The numbers, row after row.
     pub flat: &'a [i32],
+    /// How many numbers a row has in the slice.
     pub width: usize,
+    /// How many leading numbers of each row are passed over.
     pub skip: usize,
     pub ghost narrow: { width ≤ 6 },
     pub ghost left: { skip < width },
@@ -52,6 +60,7 @@ impl<'a> Rows<'a> {
     ghost use Rattle.std.specs.Prelude.{◌≡◌, ◌*◌, ◌<◌, length};
     ghost use Rattle.evm_rows.specs.View.{vertices_of};
 
+    /// The dimension: how many coordinates of each row are left.
     pub fn dim(&self) -> usize
         ensures { result ≡ (vertices_of self.now).dim }
     {
@@ -63,12 +72,14 @@ impl Rows<'_> {
     ghost use Rattle.std.specs.Prelude.{◌≡◌, ◌-◌, ◌<◌, ◌≤◌, ℤ, [], length, slice_index_or};
     ghost use Rattle.evm_rows.specs.View.{vertices_of};
 
+    /// The number of rows.
     pub fn len(&self) -> usize
         ensures { result ≡ length (vertices_of self.now).rows }
     {
         self.flat.len() / self.width
     }
 
+    /// The coordinate of a row, counted from 0, on an axis, counted from 1.
     pub fn coord(&self, row: usize, axis: usize) -> i32
         requires row { row < length (vertices_of self.now).rows }
         requires low { 0 < axis }
@@ -79,7 +90,10 @@ impl Rows<'_> {
     }
 }
 
-/// A list of rows that owns its numbers.
+/// A solid of dimension 1 to 6, as the ascending list of its extreme vertices. It owns their coordinates, one row after
+/// another, and nothing else.
+///
+/// The type keeps that the rows are a vertex list, so that they are the extreme vertices of just one set of cells.
 #[derive(Drop)]
 pub struct Solid {
     dim: usize,

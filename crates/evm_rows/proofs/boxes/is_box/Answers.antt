@@ -1,6 +1,6 @@
-use Rattle.std.proofs.Common.{◌≡◌, ◌<◌, ◌≤◌, ◌+◌, Bool, true, false, ◌&&◌, drop, get_or, length, pos, ℤ, sym, ap, ◌∙◌, arith, rules, w32, neg_ℤ, ◌<ℤ◌, ◌≤ℤ◌}
+use Rattle.std.proofs.Common.{◌≡◌, ◌<◌, ◌+◌, false, ◌&&◌, drop, get_or, length, pos, sym, ap, ◌∙◌, arith, rules, w32}
 use mir.Val.{SFits}
-use Rattle.std.proofs.lemmas.Int.{ints, to_z-of_z}
+use Rattle.std.proofs.lemmas.Int.{ints}
 use Rattle.evm_cells.specs.Limits.{limit}
 use Rattle.evm_rows.proofs.BoxTests.{sides_pass, side_passes, sides_start, sides-drop, sides_end, side_good, side_low, side_high, side_none}
 use Rattle.evm_rows.proofs.boxes.is_box.Goals as goal

@@ -1,8 +1,7 @@
-use Rattle.std.proofs.Common.{◌≡◌, ◌≤◌, arith, length, drop, take, ap, ◌∙◌, inl, inr}
+use Rattle.std.proofs.Common.{arith, drop, ap, ◌∙◌, inl, inr}
 use native.Mathlib.Nat.{mod_self, add-mod_right}
-use Rattle.std.proofs.lemmas.List.{drop-drop, length-take-le}
+use Rattle.std.proofs.lemmas.List.{drop-drop}
 use Rattle.evm_cells.specs.Places.{same}
-use Rattle.evm_rows.specs.Rows.{rows_of}
 use Rattle.evm_rows.proofs.RowsLaws.{rows_of-none}
 use Rattle.evm_rows.proofs.Lines.{front_first, front_more, front_done}
 use Rattle.evm_rows.proofs.check.front_group.Goals as goal

@@ -3,7 +3,7 @@ use mir.Val.{SFits}
 use Rattle.std.specs.List.{list_all}
 use Rattle.std.proofs.lemmas.List.{drop_more}
 use Rattle.std.proofs.lemmas.Int.{ints}
-use Rattle.evm_cells.specs.Limits.{limit, is_point, is_point_coord}
+use Rattle.evm_cells.specs.Limits.{limit, is_point_coord}
 use Rattle.evm_cells.proofs.Coords.{point_yes}
 use Rattle.evm_rows.proofs.BoxTests.{coord_low, coord_high, point_coords}
 use Rattle.evm_rows.proofs.check.is_within.Goals as goal

@@ -1,7 +1,7 @@
 use Rattle.std.proofs.Common.{◌≡◌, ◌-◌, ◌∙◌, ap, ap₂, arith}
 use Rattle.evm_cells.specs.Places.{has}
 use Rattle.evm_cells.specs.Vertices.{IsVertexList, cells}
-use Rattle.evm_rows.specs.Rows.{rows_of, merge_xor}
+use Rattle.evm_rows.specs.Rows.{rows_of}
 use Rattle.evm_rows.proofs.RowsOrder.{rows_of-flat_of}
 use Rattle.evm_rows.proofs.Bridge.{merge_is, vertices-xor, are_rows-flat, wide-points}
 use Rattle.evm_rows.proofs.Solids.{cells-xor_rows, has-xor_rows}

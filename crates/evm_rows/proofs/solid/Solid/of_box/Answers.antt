@@ -1,9 +1,9 @@
-use Rattle.std.proofs.Common.{◌≡◌, length, true, List, [], ◌++◌, map, sym, ap, ap₂, ◌∙◌, ℤ}
-use Rattle.evm_cells.specs.Boxes.{IsBox, is_box, box_cells, corners}
-use Rattle.evm_cells.specs.Vertices.{cells, evm}
+use Rattle.std.proofs.Common.{◌≡◌, length, ap₂, ◌∙◌}
+use Rattle.evm_cells.specs.Boxes.{IsBox, box_cells, corners}
+use Rattle.evm_cells.specs.Vertices.{cells}
 use Rattle.evm_cells.proofs.Core.{cells-evm}
 use Rattle.evm_cells.proofs.Corners.{cell_set-box}
-use Rattle.evm_rows.specs.Rows.{rows_of, flat_of}
+use Rattle.evm_rows.specs.Rows.{flat_of}
 use Rattle.evm_rows.proofs.BoxTests.{box_rows, box_vertices, box_from, corners_alone}
 use Rattle.evm_rows.proofs.solid.Solid.of_box.Goals as goal
 

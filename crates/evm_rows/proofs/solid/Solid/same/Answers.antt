@@ -1,8 +1,8 @@
-use Rattle.std.proofs.Common.{◌≡◌, ◌∙◌, ap₂, sym, IsTrue, ◌↔◌, subst}
+use Rattle.std.proofs.Common.{◌≡◌, ◌∙◌, ap₂, subst}
 use Rattle.std.specs.Cmp.Lexicographic.{pointwise}
 use Rattle.std.specs.Ordering.{int_eq}
 use Rattle.evm_cells.specs.Vertices.{IsVertexList}
-use Rattle.evm_rows.specs.Rows.{Vertices, rows_of}
+use Rattle.evm_rows.specs.Rows.{Vertices}
 use Rattle.evm_rows.proofs.Solids.{same_vertices, same_cells, vertices_shown, by_way}
 use Rattle.evm_rows.proofs.solid.Solid.same.Goals as goal
 
