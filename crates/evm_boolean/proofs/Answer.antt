@@ -5,10 +5,11 @@ use Rattle.evm_cells.specs.Vertices.{evm, cells, IsVertexList}
 use Rattle.evm_rows.specs.Rows.{Vertices, rows_of, combined_rows, flat_of, AreRows}
 use Rattle.evm_rows.proofs.RowsOrder.{rows_of-flat_of}
 use Rattle.evm_rows.proofs.Bridge.{are_rows-flat, vertices-op, wide-points}
-use Rattle.evm_boolean.specs.declared.combine.Op2.{Op2}
-use Rattle.evm_boolean.specs.declared.combine.Op2.TheVariants.{Or, And, Sub, Xor}
+use Rattle.evm_boolean.specs.declared.boolean.Op2.{Op2}
+use Rattle.evm_boolean.specs.declared.boolean.Op2.TheVariants.{Or, And, Sub, Xor}
 use Rattle.evm_boolean.specs.Tower.{fills, or_vertices, and_vertices, sub_vertices}
-use Rattle.evm_boolean.proofs.TowerCells.{op-left_none, op-right_none, op-left_clear, op-right_clear}
+use Rattle.evm_cells.proofs.Core.{cells-evm}
+use Rattle.evm_cells.proofs.Combine.{cell_set-combine}
 
 pub or_is : (a b s : Vertices) → s.dim ≡ a.dim → s.rows ≡ combined_rows (fills Or) a.dim a.rows b.rows → s ≡ or_vertices a b
 unfolding or_vertices combined_rows or_cells
@@ -22,36 +23,31 @@ pub sub_is : (a b s : Vertices) → s.dim ≡ a.dim → s.rows ≡ combined_rows
 unfolding sub_vertices combined_rows sub_cells
 sub_is a b s d r = λ i. record { dim = d i; rows = r i }
 
--- an operand without rows
-pub left_kept : (op : Op2) (n : ℕ) (V W : List (List ℤ)) → ((b : Bool) → fills op false b ≡ b) → V ≡ [] → IsVertexList n W → W ≡ combined_rows (fills op) n V W
-left_kept op n V W e v w = op-left_none (fills op) n V W v w e
+-- a test of one value, that fails at false, answers that value or nothing
+pub kept : (f : Bool → Bool) → f false ≡ false → f true ≡ true → (b : Bool) → f b ≡ b
+kept f e t true = t
+kept f e t false = e
 
-pub left_or : (b : Bool) → fills Or false b ≡ b
-left_or b = refl
+pub cleared : (f : Bool → Bool) → f false ≡ false → f true ≡ false → (b : Bool) → f b ≡ false
+cleared f e t true = t
+cleared f e t false = e
 
-pub left_xor : (b : Bool) → fills Xor false b ≡ b
-unfolding xor
-left_xor b = refl
+-- the cells of the answer
+pub cells_are : (op : Bool → Bool → Bool) (n : ℕ) (V W X : List (List ℤ)) → X ≡ combined_rows op n V W → cells n X ≡ combine op n (cells n V) (cells n W)
+unfolding combined_rows
+cells_are op n V W X e = ap (cells n) e ∙ cells-evm n (combine op n (cells n V) (cells n W)) (cell_set-combine op n (cells n V) (cells n W))
 
-pub right_or : (a : Bool) → fills Or a false ≡ a
-right_or true = refl
-right_or false = refl
+pub cells_or : (n : ℕ) (A B : List (List ℤ)) → combine (fills Or) n A B ≡ or_cells n A B
+unfolding or_cells
+cells_or n A B = refl
 
-pub right_sub : (a : Bool) → fills Sub a false ≡ a
-right_sub true = refl
-right_sub false = refl
+pub cells_and : (n : ℕ) (A B : List (List ℤ)) → combine (fills And) n A B ≡ and_cells n A B
+unfolding and_cells
+cells_and n A B = refl
 
-pub right_xor : (a : Bool) → fills Xor a false ≡ a
-unfolding xor
-right_xor true = refl
-right_xor false = refl
-
-pub right_and : (a : Bool) → fills And a false ≡ false
-right_and true = refl
-right_and false = refl
-
-pub along : (op o : Op2) (n : ℕ) (V W X : List (List ℤ)) → o ≡ op → X ≡ combined_rows (fills o) n V W → X ≡ combined_rows (fills op) n V W
-along op o n V W X e x = x ∙ ap (λ p. combined_rows (fills p) n V W) e
+pub cells_sub : (n : ℕ) (A B : List (List ℤ)) → combine (fills Sub) n A B ≡ sub_cells n A B
+unfolding sub_cells
+cells_sub n A B = refl
 
 -- the numbers of the answer
 pub answer_rows : (op : Bool → Bool → Bool) (m n : ℕ) (V W : List (List ℤ)) (flat : List ℤ) → m ≡ n → 0 < n → n ≤ 6 → flat ≡ flat_of (combined_rows op m V W) → AreRows flat m 0

@@ -17,7 +17,6 @@ use Rattle.evm_boolean.proofs.Cuts.{lower-one}
 use Rattle.std.proofs.lemmas.Bool.{cases_Bool}
 use Rattle.evm_boolean.proofs.Lines.{rows_of-ones, firsts-ones, ones-firsts, flat_of-ones, rising-firsts}
 
-
 pub firsts-first : (rs : List (List ℤ)) (row : List ℤ) (rest : List (List ℤ)) (h : ℤ) → rs ≡ row ∷ rest → row ≡ h ∷ drop 1 row → firsts rs ≡ h ∷ firsts rest
 firsts-first rs row rest h e f = rw (e, f) refl
 

@@ -194,10 +194,10 @@ gaining_start op A B C D height low start a b c d f g sa sb sc sd =
       written = [];
       kept = sym (append-nil start);
       built = record {
-          rises = refl;
-          under = refl;
-          done = λ x k. par-nil x ∙ sym (none x k);
-          now = sym (none (low -ℤ pos 1) (let z : (low -ℤ pos 1) ≤ℤ (low -ℤ pos 1) = omega (arith, int_facts) in z));
+        rises = refl;
+        under = refl;
+        done = λ x k. par-nil x ∙ sym (none x k);
+        now = sym (none (low -ℤ pos 1) (let z : (low -ℤ pos 1) ≤ℤ (low -ℤ pos 1) = omega (arith, int_facts) in z));
       };
       at_a = sa;
       at_b = sb;
@@ -321,11 +321,11 @@ turning_start A C low p out a c m r b f sa sc ea la ec eo =
     record {
       level = low -ℤ pos 1;
       built = rw eo (record {
-          rises = rising-take p A r;
-          under = under;
-          done = done;
-          now = ap₂ xor ea ec ∙ xor-false (odd p) ∙ ap odd (sym (length-take-le p A m)) ∙ sym (par-under (take p A) (low -ℤ pos 1) under)
-              ∙ done (low -ℤ pos 1) (let z : (low -ℤ pos 1) ≤ℤ (low -ℤ pos 1) = omega (arith, int_facts) in z);
+        rises = rising-take p A r;
+        under = under;
+        done = done;
+        now = ap₂ xor ea ec ∙ xor-false (odd p) ∙ ap odd (sym (length-take-le p A m)) ∙ sym (par-under (take p A) (low -ℤ pos 1) under)
+            ∙ done (low -ℤ pos 1) (let z : (low -ℤ pos 1) ≤ℤ (low -ℤ pos 1) = omega (arith, int_facts) in z);
       });
       at_a = sa;
       at_c = sc;

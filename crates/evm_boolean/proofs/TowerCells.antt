@@ -22,8 +22,8 @@ use Rattle.evm_rows.specs.Rows.{combined_rows, xor_rows}
 use Rattle.evm_sections.specs.Couplets.{couplets_of, first_height, rise_above}
 use Rattle.evm_sections.proofs.Heights.{heights, rows_at-append, rows_at-yes, rows_at-no, rows_at-none}
 use Rattle.evm_sections.proofs.Sections.{Above, stays, waits, steps, starts, bottom, outside, low_outside, combined_rows-evm, xor_rows-evm}
-use Rattle.evm_boolean.specs.declared.combine.Op2.{Op2}
-use Rattle.evm_boolean.specs.declared.combine.Op2.TheVariants.{Or, And, Sub, Xor}
+use Rattle.evm_boolean.specs.declared.boolean.Op2.{Op2}
+use Rattle.evm_boolean.specs.declared.boolean.Op2.TheVariants.{Or, And, Sub, Xor}
 use Rattle.evm_boolean.specs.Tower.{under, lower, after, section_at, couplet_here, fills}
 use Rattle.evm_boolean.proofs.Cuts.{From, from-left, from-right, lower-one, first-above}
 use Rattle.evm_boolean.proofs.TowerSteps.{cuts_into, cuts_of, tower, cuts_of-step, lower-none}

@@ -11,7 +11,7 @@ use Rattle.evm_cells.proofs.Coords.{eq_no}
 use Rattle.evm_rows.specs.Rows.{xor_rows, combined_rows, flat_of}
 use Rattle.evm_sections.specs.Couplets.{first_height, AreSingle}
 use Rattle.evm_sections.proofs.Heights.{heights}
-use Rattle.evm_boolean.specs.declared.combine.Op2.{Op2}
+use Rattle.evm_boolean.specs.declared.boolean.Op2.{Op2}
 use Rattle.evm_boolean.specs.Tower.{under, lower, after, section_at, fills}
 use Rattle.evm_sections.specs.Couplets.{mark}
 use Rattle.evm_boolean.proofs.TowerLaws.{flat_of-append}

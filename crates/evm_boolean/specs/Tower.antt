@@ -4,8 +4,8 @@ use Rattle.std.specs.Ordering.{int_eq}
 use Rattle.evm_cells.specs.Booleans.{or_cells, and_cells, sub_cells, xor}
 use Rattle.evm_cells.specs.Vertices.{evm, cells}
 use Rattle.evm_rows.specs.Rows.{Vertices, xor_rows}
-use Rattle.evm_boolean.specs.declared.combine.Op2.{Op2}
-use Rattle.evm_boolean.specs.declared.combine.Op2.TheVariants.{Or, And, Sub, Xor}
+use Rattle.evm_boolean.specs.declared.boolean.Op2.{Op2}
+use Rattle.evm_boolean.specs.declared.boolean.Op2.TheVariants.{Or, And, Sub, Xor}
 
 -- the vertices of the union, the intersection and the difference of the cells
 unfoldable pub or_vertices : Vertices → Vertices → Vertices

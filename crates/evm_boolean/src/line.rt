@@ -9,7 +9,7 @@ ghost use Rattle.evm_rows.specs.View.{vertices_of};
 ghost use Rattle.evm_boolean.specs.Tower.{fills, gain, under};
 ghost use Rattle.evm_boolean.specs.Lines.{firsts, ones, head_of, least, if_any, passed, IsLine};
 
-use crate::combine::{Op2, lower_of};
+use crate::boolean::{Op2, lower_of};
 use evm_rows::{Rows, append_rows, split_row};
 use evm_sections::first_of;
 use std::alloc::AllocError;

@@ -5,7 +5,7 @@ ghost use Rattle.evm_rows.specs.Rows.{AreRows, rows_of, xor_rows, combined_rows}
 ghost use Rattle.evm_rows.specs.View.{vertices_of};
 ghost use Rattle.evm_boolean.specs.Tower.{after, couplet_here, fills};
 
-use crate::combine::{Op2, lower_of};
+use crate::boolean::{Op2, lower_of};
 use crate::line::{append_gain, changed};
 use evm_rows::{NoMemory, Rows, Solid};
 use evm_sections::Walk;
@@ -86,9 +86,7 @@ pub fn combine_planes(
     while let Some(height) = lower_of(left.height(), right.height()) {
         let change_a = couplet_at(&mut left, height, none_a);
         let change_b = couplet_at(&mut right, height, none_b);
-        append_gain(
-            &mut out, op, height, &line_a, &line_b, change_a, change_b,
-        )?;
+        append_gain(&mut out, op, height, &line_a, &line_b, change_a, change_b)?;
         let (next_a, old_a) = line_after(line_a, spare, change_a)?;
         line_a = next_a;
         let (next_b, old_b) = line_after(line_b, old_a, change_b)?;

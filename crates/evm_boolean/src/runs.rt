@@ -7,7 +7,7 @@ ghost use Rattle.evm_sections.specs.Couplets.{first_height, AreSingle};
 ghost use Rattle.evm_boolean.specs.Tower.{after, section_at, fills};
 ghost use Rattle.evm_sections.specs.Couplets.{mark};
 
-use crate::combine::{Op2, lower_of};
+use crate::boolean::{Op2, lower_of};
 use crate::tower::append_mark;
 use evm_rows::{NoMemory, Rows, Solid};
 use evm_sections::marks::Marks;

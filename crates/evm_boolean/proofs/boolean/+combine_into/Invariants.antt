@@ -2,7 +2,7 @@ use Rattle.std.proofs.Common.{◌≡◌, ℕ, ◌+◌, ◌-◌, ◌<◌, ◌≤�
 use Rattle.evm_rows.specs.Rows.{rows_of, flat_of, combined_rows}
 use Rattle.evm_boolean.specs.Tower.{fills}
 use Rattle.evm_boolean.proofs.TowerSteps.{tower, cuts_of}
-use Rattle.evm_boolean.proofs.combine.+combine_into.Given as goal
+use Rattle.evm_boolean.proofs.boolean.+combine_into.Given as goal
 
 abbrev pub decreases-combine_into : goal.decreases-combine_into
 decreases-combine_into l = l.a.width - l.a.skip
