@@ -5,9 +5,14 @@
 
 mod cell;
 mod compare;
+mod limits;
 mod outcome;
 mod point;
 
 pub use cell::fills;
+pub use limits::{is_cell, is_point};
 pub use outcome::Place;
 pub use point::place;
+
+#[cfg(test)]
+mod tests;
