@@ -103,3 +103,6 @@ pub fn boundary(alloc: Global, a: Rows<'_>) -> Result<u128, NoMemory>
     }
     Ok(total)
 }
+
+#[cfg(test)]
+mod tests;
