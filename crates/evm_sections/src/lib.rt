@@ -16,3 +16,6 @@ mod walk;
 pub use marks::Marks;
 pub use sweep::{Slab, Sweep};
 pub use walk::{Walk, first_of};
+
+#[cfg(test)]
+mod tests;
