@@ -1,12 +1,11 @@
 -- What the public calls answer
-use Rattle.std.proofs.Common.{◌≡◌, ℕ, ◌-◌, ◌<◌, ◌≤◌, Bool, true, false, not, ◌&&◌, ◌||◌, List, [], ◌∷◌, ℤ, refl, sym, ap, ◌∙◌, arith, length}
-use Rattle.evm_cells.specs.Booleans.{xor, combine, or_cells, and_cells, sub_cells}
-use Rattle.evm_cells.specs.Vertices.{evm, cells, IsVertexList}
+use Rattle.std.proofs.Common.{◌≡◌, ℕ, ◌<◌, ◌≤◌, Bool, true, false, List, ℤ, refl, ap, ◌∙◌, arith}
+use Rattle.evm_cells.specs.Booleans.{combine, or_cells, and_cells, sub_cells}
+use Rattle.evm_cells.specs.Vertices.{cells, IsVertexList}
 use Rattle.evm_rows.specs.Rows.{Vertices, rows_of, combined_rows, flat_of, AreRows}
 use Rattle.evm_rows.proofs.RowsOrder.{rows_of-flat_of}
 use Rattle.evm_rows.proofs.Bridge.{are_rows-flat, vertices-op, wide-points}
-use Rattle.evm_boolean.specs.declared.boolean.Op2.{Op2}
-use Rattle.evm_boolean.specs.declared.boolean.Op2.TheVariants.{Or, And, Sub, Xor}
+use Rattle.evm_boolean.specs.declared.boolean.Op2.TheVariants.{Or, And, Sub}
 use Rattle.evm_boolean.specs.Tower.{fills, or_vertices, and_vertices, sub_vertices}
 use Rattle.evm_cells.proofs.Core.{cells-evm}
 use Rattle.evm_cells.proofs.Combine.{cell_set-combine}

@@ -1,5 +1,5 @@
 -- The steps of a walk along a line
-use Rattle.std.proofs.Common.{◌≡◌, ℕ, zero, suc, ◌+◌, ◌<◌, ◌≤◌, ◌%◌, Bool, true, false, not, Option, Some, None, List, [], ◌∷◌, length, take, drop, ℤ, refl, sym, ap, ap₂, ◌∙◌, arith, int_eq, int_lt, ◌==◌, ◌-◌, get_or, pos, ◌<ℤ◌, add-one, inl, inr, subst, ◌⊎◌, ⊎_elim}
+use Rattle.std.proofs.Common.{◌≡◌, ℕ, ◌+◌, ◌<◌, ◌≤◌, ◌%◌, Bool, true, false, not, Option, Some, None, List, [], ◌∷◌, length, take, drop, ℤ, refl, sym, ap, ◌∙◌, arith, int_eq, int_lt, ◌==◌, ◌-◌, get_or, pos, ◌<ℤ◌, add-one, inl, inr, subst, ◌⊎◌, ⊎_elim}
 use Rattle.evm_cells.specs.Booleans.{xor}
 use Rattle.evm_cells.specs.Vertices.{odd, IsVertexList}
 use Rattle.evm_cells.proofs.Xor.{xor-false}

@@ -1,25 +1,25 @@
 -- Vertex lists of dimension 1 by the places that they fill: a place is filled if an odd number of vertices stand at or below it
-use Rattle.std.proofs.Common.{◌≡◌, ℕ, zero, suc, ◌+◌, ◌-◌, ◌<◌, ◌≤◌, ◌%◌, Bool, true, false, not, cond, ◌&&◌, ◌||◌, Option, Some, None, List, [], ◌∷◌, ◌++◌, length, map, take, drop, get_or, ℤ, pos, ◌-ℤ◌, ◌+ℤ◌, ◌<ℤ◌, ◌≤ℤ◌, refl, sym, ap, ap₂, ◌∙◌, subst, arith, int_lt, int_le, int_eq, append-nil, ⊎_elim, ◌==◌}
+use Rattle.std.proofs.Common.{◌≡◌, suc, ◌+◌, Bool, true, false, not, cond, ◌&&◌, ◌||◌, Some, List, [], ◌∷◌, ◌++◌, length, ℤ, pos, ◌-ℤ◌, ◌<ℤ◌, ◌≤ℤ◌, refl, sym, ap, ap₂, ◌∙◌, arith, int_lt, int_le, int_eq, append-nil}
 use Rattle.std.specs.List.{list_any, list_all}
-use Rattle.std.proofs.lemmas.Bool.{cases_Bool, false≢true}
+use Rattle.std.proofs.lemmas.Bool.{false≢true}
 use Rattle.std.proofs.lemmas.Int.{ints as int_facts, by_lt_z}
-use Rattle.evm_cells.specs.Places.{each, before, ascending, has}
-use Rattle.evm_cells.specs.Limits.{limit, is_cell, is_cell_coord, IsCellSet}
+use Rattle.evm_cells.specs.Places.{each, before, has}
+use Rattle.evm_cells.specs.Limits.{is_cell, IsCellSet}
 use Rattle.evm_cells.specs.Booleans.{xor, combine}
-use Rattle.evm_cells.specs.Vertices.{evm, cells, IsVertexList, odd}
-use Rattle.evm_cells.proofs.Xor.{xsum, xsum-cons, xsum-same, xor-false, false-xor, xor_self, xor_assoc, xor_comm, and-true, and-false, and_first, and_second, and_both, odd-more, odd-zero}
+use Rattle.evm_cells.specs.Vertices.{cells, IsVertexList, odd}
+use Rattle.evm_cells.proofs.Xor.{xsum, xsum-cons, xsum-same, xor-false, xor_assoc, and-true, and-false, and_first, and_second, and_both, odd-more, odd-zero}
 use Rattle.evm_cells.proofs.Sum.{xsum-append, xsum-xor, xsum-map}
-use Rattle.evm_cells.proofs.Order.{rising, same_lists, sift, refuted}
-use Rattle.evm_cells.proofs.Lists.{all_weaker, all-append, rising-append, all-map}
-use Rattle.evm_cells.proofs.Coords.{strict_ints, eq_is, eq_yes, eq_no, lt_is, lt_yes, lt_no, le_is, le_yes, le_no, by_order, cell_is}
+use Rattle.evm_cells.proofs.Order.{rising, same_lists, sift}
+use Rattle.evm_cells.proofs.Lists.{all_weaker, all-append, rising-append}
+use Rattle.evm_cells.proofs.Coords.{strict_ints, eq_is, eq_yes, eq_no, lt_is, lt_yes, le_is, le_yes, le_no, by_order}
 use Rattle.evm_cells.proofs.Places.{ascending-rising}
-use Rattle.evm_cells.proofs.Universe.{cell_set-cells, member_passes, cell_parts}
+use Rattle.evm_cells.proofs.Universe.{cell_set-cells, member_passes}
 use Rattle.evm_cells.proofs.Combine.{cell_set-combine, has-combine}
 use Rattle.evm_cells.proofs.Core.{cells-evm, has-cells_even}
 use Rattle.evm_rows.specs.Rows.{rows_of, flat_of, combined_rows, xor_rows}
 use Rattle.evm_rows.proofs.RowsOrder.{Wide, rows_of-flat_of}
-use Rattle.evm_rows.proofs.Bridge.{vertices-op, vertices-xor, wide-points}
-use Rattle.evm_boolean.specs.Lines.{firsts, ones, head_of, past, stands, least, if_any}
+use Rattle.evm_rows.proofs.Bridge.{vertices-op, wide-points}
+use Rattle.evm_boolean.specs.Lines.{firsts, ones, head_of, past, stands, if_any}
 
 -- whether the place x is filled
 abbrev pub par : List ℤ → ℤ → Bool

@@ -1,7 +1,7 @@
 -- The couplet that a Boolean of two lines gains where both lines change, and a line after a change
-use Rattle.std.proofs.Common.{◌≡◌, ℕ, zero, suc, ◌+◌, ◌-◌, ◌<◌, ◌≤◌, Bool, true, false, not, cond, ◌&&◌, Option, Some, None, List, [], ◌∷◌, ◌++◌, length, map, take, drop, get_or, ℤ, pos, ◌-ℤ◌, ◌+ℤ◌, ◌<ℤ◌, ◌≤ℤ◌, refl, sym, ap, ap₂, ◌∙◌, subst, arith, int_lt, int_le, int_eq, append_assoc, append-nil, ⊎_elim}
-use Rattle.std.specs.List.{list_any, list_all}
-use Rattle.std.proofs.lemmas.Bool.{cases_Bool, false≢true, true≢false}
+use Rattle.std.proofs.Common.{◌≡◌, ℕ, zero, suc, ◌<◌, ◌≤◌, Bool, true, false, Option, Some, None, List, [], ◌∷◌, ◌++◌, length, take, drop, get_or, ℤ, pos, ◌-ℤ◌, ◌<ℤ◌, ◌≤ℤ◌, refl, sym, ap, ap₂, ◌∙◌, subst, arith, int_lt, int_le, append_assoc, append-nil, ⊎_elim}
+use Rattle.std.specs.List.{list_all}
+use Rattle.std.proofs.lemmas.Bool.{cases_Bool}
 use Rattle.std.proofs.lemmas.Int.{ints as int_facts, by_lt_z}
 use Rattle.std.proofs.lemmas.List.{take-append-drop, length-take-le, map-append}
 use Rattle.std.specs.Prelude.{unwrap_or}
@@ -9,17 +9,17 @@ use Rattle.evm_cells.specs.Places.{has}
 use Rattle.evm_cells.specs.Limits.{limit, is_cell, is_cell_coord, IsCellSet}
 use Rattle.evm_cells.specs.Booleans.{xor}
 use Rattle.evm_cells.specs.Vertices.{cells, IsVertexList, odd}
-use Rattle.evm_cells.proofs.Xor.{xor-false, false-xor, xor_self, xor_assoc, xor_swap, xor_comm, and_first, and_second, and_both}
+use Rattle.evm_cells.proofs.Xor.{xor-false, false-xor, xor_self, xor_assoc, xor_comm, and_first, and_second, and_both}
 use Rattle.evm_cells.proofs.Order.{rising, refuted}
-use Rattle.evm_cells.proofs.Lists.{all_weaker, all-append, rising-append}
+use Rattle.evm_cells.proofs.Lists.{all_weaker, rising-append}
 use Rattle.evm_cells.proofs.Coords.{lt_is, lt_yes, le_is, le_yes, cell_is}
 use Rattle.evm_cells.proofs.Universe.{cell_set-cells, member_passes, cell_parts}
-use Rattle.evm_rows.specs.Rows.{rows_of, flat_of, combined_rows, xor_rows}
-use Rattle.evm_rows.proofs.Bridge.{vertices-op, vertices-xor, wide-points}
+use Rattle.evm_rows.specs.Rows.{flat_of, combined_rows, xor_rows}
+use Rattle.evm_rows.proofs.Bridge.{vertices-op, vertices-xor}
 use Rattle.evm_boolean.specs.Tower.{under, lower, gain}
-use Rattle.evm_boolean.specs.Lines.{firsts, ones, head_of, past, stands, least, if_any, Course, passed}
+use Rattle.evm_boolean.specs.Lines.{firsts, ones, head_of, least, if_any, Course, passed}
 use Rattle.evm_boolean.proofs.TowerLaws.{flat_of-append}
-use Rattle.evm_boolean.proofs.Lines.{par, par-nil, par-append, par-above, par-under, par-cells, par-op, par-xor, by_places, all_le, all_lt, higher, rest_rises, rises-over, Ahead, line_stays, line_passes, from_first, line_now, head_above, Built, built_stays, built_more, firsts-ones, rising-firsts}
+use Rattle.evm_boolean.proofs.Lines.{par, par-nil, par-append, par-above, par-under, par-cells, par-op, par-xor, by_places, all_le, all_lt, higher, rest_rises, rises-over, Ahead, line_stays, line_passes, from_first, line_now, head_above, Built, built_stays, built_more}
 
 -- ---- the lowest number that is left
 

@@ -1,11 +1,11 @@
 -- The tower of two vertex lists is the vertex list of the combined cells
-use Rattle.std.proofs.Common.{◌≡◌, ℕ, zero, suc, ◌+◌, ◌-◌, ◌<◌, Bool, true, false, cond, ◌&&◌, Option, Some, None, List, [], ◌∷◌, ◌++◌, map, filter, get_or, ℤ, pos, negsuc, neg_ℤ, ◌-ℤ◌, ◌+ℤ◌, ◌<ℤ◌, ◌≤ℤ◌, refl, sym, ap, ap₂, ◌∙◌, subst, arith, int_lt, int_eq, append-nil, ⊎_elim, inl, inr}
+use Rattle.std.proofs.Common.{◌≡◌, ℕ, suc, ◌+◌, Bool, true, false, cond, ◌&&◌, Option, Some, None, List, [], ◌∷◌, ◌++◌, ℤ, pos, ◌-ℤ◌, ◌<ℤ◌, ◌≤ℤ◌, refl, sym, ap, ap₂, ◌∙◌, subst, arith, int_lt, int_eq, append-nil, ⊎_elim}
 use Rattle.std.specs.List.{list_all}
-use Rattle.std.proofs.lemmas.Bool.{cases_Bool, false≢true, true≢false}
+use Rattle.std.proofs.lemmas.Bool.{cases_Bool, true≢false}
 use Rattle.std.proofs.lemmas.Int.{ints as int_facts, by_lt_z}
 use Rattle.evm_cells.specs.Places.{before, ascending, without, has}
 use Rattle.evm_cells.specs.Limits.{is_point, is_cell, IsCellSet}
-use Rattle.evm_cells.specs.Booleans.{xor, xor_cells, combine}
+use Rattle.evm_cells.specs.Booleans.{xor, combine}
 use Rattle.evm_cells.specs.Vertices.{evm, cells, IsVertexList}
 use Rattle.evm_cells.specs.Sections.{couplet, slice, rows_at}
 use Rattle.evm_cells.proofs.Xor.{and_first, and_second, and_both, and-false, xor-false}
@@ -20,13 +20,13 @@ use Rattle.evm_cells.proofs.Slices.{cell_set-slice}
 use Rattle.evm_cells.proofs.Layers.{rows-evm, slice-combine, no_couplet, evm-empty, cells-empty, vertices_by_couplets, slice_outside, no_empty_point}
 use Rattle.evm_rows.specs.Rows.{combined_rows, xor_rows}
 use Rattle.evm_sections.specs.Couplets.{couplets_of, first_height, rise_above}
-use Rattle.evm_sections.proofs.Heights.{heights, rows_at-append, rows_at-yes, rows_at-no, rows_at-none}
+use Rattle.evm_sections.proofs.Heights.{rows_at-append, rows_at-yes, rows_at-no, rows_at-none}
 use Rattle.evm_sections.proofs.Sections.{Above, stays, waits, steps, starts, bottom, outside, low_outside, combined_rows-evm, xor_rows-evm}
 use Rattle.evm_boolean.specs.declared.boolean.Op2.{Op2}
 use Rattle.evm_boolean.specs.declared.boolean.Op2.TheVariants.{Or, And, Sub, Xor}
 use Rattle.evm_boolean.specs.Tower.{under, lower, after, section_at, couplet_here, fills}
 use Rattle.evm_boolean.proofs.Cuts.{From, from-left, from-right, lower-one, first-above}
-use Rattle.evm_boolean.proofs.TowerSteps.{cuts_into, cuts_of, tower, cuts_of-step, lower-none}
+use Rattle.evm_boolean.proofs.TowerSteps.{cuts_of, tower, cuts_of-step, lower-none}
 
 -- ---- vertices_of and order of the rows of one height
 

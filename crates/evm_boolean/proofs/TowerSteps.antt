@@ -1,5 +1,5 @@
 -- The steps of a loop over cuts
-use Rattle.std.proofs.Common.{◌≡◌, ℕ, ◌+◌, ◌-◌, ◌<◌, ◌≤◌, suc, zero, ℤ, Bool, true, false, not, Option, Some, None, List, [], ◌∷◌, ◌++◌, length, refl, ap, sym, ◌∙◌, arith, cond, append_assoc, append-nil, inl, inr, ⊎_elim}
+use Rattle.std.proofs.Common.{◌≡◌, ℕ, ℤ, Bool, true, false, not, Some, None, List, [], ◌∷◌, ◌++◌, refl, ap, sym, ◌∙◌, arith, append_assoc, append-nil, ⊎_elim}
 use Rattle.std.specs.Prelude.{int_lt, if◌then◌else◌}
 use Rattle.std.specs.Ordering.{int_eq}
 use Rattle.std.proofs.lemmas.Bool.{cases_Bool}
@@ -8,11 +8,10 @@ use Rattle.std.proofs.lemmas.Int.{ints}
 use Rattle.evm_cells.specs.Booleans.{xor}
 use Rattle.evm_cells.proofs.Xor.{xor-false}
 use Rattle.evm_cells.proofs.Coords.{eq_no}
-use Rattle.evm_rows.specs.Rows.{xor_rows, combined_rows, flat_of}
+use Rattle.evm_rows.specs.Rows.{xor_rows, flat_of}
 use Rattle.evm_sections.specs.Couplets.{first_height, AreSingle}
 use Rattle.evm_sections.proofs.Heights.{heights}
-use Rattle.evm_boolean.specs.declared.boolean.Op2.{Op2}
-use Rattle.evm_boolean.specs.Tower.{under, lower, after, section_at, fills}
+use Rattle.evm_boolean.specs.Tower.{under, lower, after, section_at}
 use Rattle.evm_sections.specs.Couplets.{mark}
 use Rattle.evm_boolean.proofs.TowerLaws.{flat_of-append}
 use Rattle.evm_sections.proofs.Zero.{xor_rows-mark}

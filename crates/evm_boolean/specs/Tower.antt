@@ -1,5 +1,5 @@
 -- Rows that are built from couplets, from the lowest up
-use Rattle.std.specs.Prelude.{ℕ, Bool, true, false, not, ◌&&◌, ◌||◌, int_lt, ℤ, Option, Some, None, List, [], ◌∷◌, ◌++◌, map, if◌then◌else◌}
+use Rattle.std.specs.Prelude.{ℕ, Bool, not, ◌&&◌, ◌||◌, int_lt, ℤ, Option, Some, None, List, [], ◌∷◌, map, if◌then◌else◌}
 use Rattle.std.specs.Ordering.{int_eq}
 use Rattle.evm_cells.specs.Booleans.{or_cells, and_cells, sub_cells, xor}
 use Rattle.evm_cells.specs.Vertices.{evm, cells}

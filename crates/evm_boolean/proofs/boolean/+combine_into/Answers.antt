@@ -1,4 +1,4 @@
-use Rattle.std.proofs.Common.{◌≡◌, ℕ, ℤ, ◌+◌, ◌-◌, ◌<◌, ◌++◌, [], true, Some, None, refl, sym, ap, ap₂, ◌∙◌, arith, rules, length, w32}
+use Rattle.std.proofs.Common.{◌≡◌, ◌-◌, ◌<◌, ◌++◌, [], Some, None, refl, sym, ap, ap₂, ◌∙◌, arith, rules, length, w32}
 use mir.Val.{SFits}
 use Rattle.evm_cells.specs.Vertices.{IsVertexList}
 use Rattle.evm_rows.specs.Rows.{Vertices, rows_of, flat_of, xor_rows, combined_rows}
@@ -6,10 +6,10 @@ use Rattle.evm_rows.specs.View.{vertices_of}
 use Rattle.evm_rows.proofs.RowsLaws.{rows_of-none}
 use Rattle.evm_sections.specs.Couplets.{first_height}
 use Rattle.evm_sections.proofs.Bits.{same32}
-use Rattle.evm_boolean.specs.Tower.{lower, after, section_at, under, fills}
+use Rattle.evm_boolean.specs.Tower.{lower, after, under, fills}
 use Rattle.evm_boolean.proofs.Cuts.{cuts-fall}
 use Rattle.evm_boolean.proofs.TowerCells.{tower_is_at, fills-none}
-use Rattle.evm_boolean.proofs.TowerSteps.{tower, cuts_of, tower_more, tower_done}
+use Rattle.evm_boolean.proofs.TowerSteps.{tower_more, tower_done}
 use Rattle.evm_boolean.proofs.Answer.{answer_rows, answer_is}
 use Rattle.evm_boolean.proofs.boolean.+combine_into.Goals as goal
 

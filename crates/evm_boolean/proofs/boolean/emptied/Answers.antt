@@ -1,4 +1,4 @@
-use Rattle.std.proofs.Common.{◌∙◌, arith}
+use Rattle.std.proofs.Common.{◌∙◌}
 use Rattle.evm_rows.proofs.RowsLaws.{rows_of-nil}
 use Rattle.evm_rows.proofs.Bridge.{are_rows-nil}
 use Rattle.evm_boolean.proofs.boolean.emptied.Goals as goal

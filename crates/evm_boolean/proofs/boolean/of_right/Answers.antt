@@ -1,4 +1,4 @@
-use Rattle.std.proofs.Common.{◌≡◌, ◌-◌, Bool, true, false, [], refl, sym, ◌∙◌}
+use Rattle.std.proofs.Common.{◌-◌, false, [], refl, sym, ◌∙◌}
 use Rattle.evm_rows.specs.Rows.{rows_of}
 use Rattle.evm_boolean.specs.Tower.{fills}
 use Rattle.evm_boolean.proofs.TowerCells.{op-left_none, op-left_clear, fills-none}

@@ -1,4 +1,4 @@
-use Rattle.std.proofs.Common.{◌≡◌, ◌<◌, ◌+◌, List, ℤ, Some, None, true, refl, sym, ap, ap₂, ◌∙◌, arith, rules, w32, to_z, of_z, int_lt, length, pos, ◌++◌}
+use Rattle.std.proofs.Common.{◌≡◌, List, ℤ, Some, None, true, refl, ap, ap₂, ◌∙◌, arith, rules, w32, to_z, of_z, int_lt, pos, ◌++◌}
 use Rattle.std.specs.Prelude.{unwrap_or}
 use mir.Val.{SFits}
 use Rattle.evm_cells.specs.Vertices.{IsVertexList}
@@ -7,7 +7,7 @@ use Rattle.evm_rows.specs.Rows.{rows_of, flat_of}
 use Rattle.evm_sections.proofs.Bits.{same32}
 use Rattle.evm_sections.proofs.Zero.{differs}
 use Rattle.evm_boolean.specs.Tower.{lower, fills, under}
-use Rattle.evm_boolean.specs.Lines.{firsts, head_of, least, passed, ones, if_any}
+use Rattle.evm_boolean.specs.Lines.{firsts, head_of, least, ones, if_any}
 use Rattle.evm_boolean.proofs.Lines.{rising-firsts}
 use Rattle.evm_boolean.proofs.LineSteps.{numbers-rise, firsts-numbers, four-fall, left-past}
 use Rattle.evm_boolean.proofs.TowerCells.{fills-none}

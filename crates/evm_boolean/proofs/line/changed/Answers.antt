@@ -1,15 +1,14 @@
-use Rattle.std.proofs.Common.{◌≡◌, ◌<◌, ◌+◌, List, ℤ, Some, None, true, false, refl, sym, ap, ap₂, ◌∙◌, arith, rules, w32, to_z, of_z, int_lt, length, pos, ◌++◌, [], take, drop}
+use Rattle.std.proofs.Common.{◌≡◌, List, ℤ, Some, true, ap, ap₂, ◌∙◌, arith, rules, w32, int_lt, pos, ◌++◌}
 use Rattle.std.specs.Prelude.{unwrap_or}
 use mir.Val.{SFits}
 use Rattle.evm_cells.specs.Booleans.{xor}
 use Rattle.evm_cells.specs.Vertices.{IsVertexList}
 use Rattle.evm_cells.proofs.Order.{rising}
-use Rattle.evm_rows.specs.Rows.{rows_of, flat_of, xor_rows, AreRows}
-use Rattle.evm_rows.proofs.Bridge.{are_rows-flat, vertices-xor}
+use Rattle.evm_rows.specs.Rows.{rows_of}
 use Rattle.evm_sections.proofs.Bits.{same32}
 use Rattle.evm_sections.proofs.Zero.{differs}
-use Rattle.evm_boolean.specs.Lines.{firsts, head_of, least, passed, if_any, ones}
-use Rattle.evm_boolean.proofs.Lines.{rising-firsts, flat_of-ones, rows_of-ones}
+use Rattle.evm_boolean.specs.Lines.{firsts, head_of, least, if_any}
+use Rattle.evm_boolean.proofs.Lines.{rising-firsts, rows_of-ones}
 use Rattle.evm_boolean.proofs.LineSteps.{numbers-rise, firsts-numbers, two-fall, left-past, line_rows}
 use Rattle.evm_boolean.proofs.Planes.{Turning, turning_start, turning_more, turning_done, one_from, starts_at, starts_whole}
 use Rattle.evm_boolean.proofs.line.changed.Goals as goal

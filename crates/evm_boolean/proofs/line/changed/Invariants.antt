@@ -1,4 +1,4 @@
-use Rattle.std.proofs.Common.{◌≡◌, ◌+◌, length}
+use Rattle.std.proofs.Common.{◌+◌, length}
 use Rattle.evm_rows.specs.Rows.{rows_of}
 use Rattle.evm_boolean.specs.Lines.{firsts}
 use Rattle.evm_boolean.proofs.Planes.{Turning}

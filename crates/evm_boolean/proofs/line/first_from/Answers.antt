@@ -1,6 +1,6 @@
-use Rattle.std.proofs.Common.{◌≡◌, ◌<ℤ◌, ◌≤ℤ◌, ℕ, ◌+◌, ◌-◌, ◌/◌, get_or, pos, rules, arith, w32, to_z, of_z}
+use Rattle.std.proofs.Common.{◌+◌, ◌-◌, ◌/◌, get_or, pos, rules, arith, w32}
 use mir.Val.{SFits}
-use Rattle.std.proofs.lemmas.Int.{ints as int_facts, by_lt_z}
+use Rattle.std.proofs.lemmas.Int.{ints as int_facts}
 use Rattle.evm_sections.proofs.Bits.{same32}
 use Rattle.evm_boolean.proofs.Planes.{all_higher}
 use Rattle.evm_boolean.proofs.LineSteps.{below-more, numbers-rise}

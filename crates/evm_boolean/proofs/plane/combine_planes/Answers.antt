@@ -1,16 +1,15 @@
-use Rattle.std.proofs.Common.{◌≡◌, ℕ, ℤ, ◌+◌, ◌-◌, ◌<◌, ◌++◌, [], List, true, Some, None, refl, sym, ap, ap₂, ◌∙◌, arith, rules, length, w32}
+use Rattle.std.proofs.Common.{◌≡◌, ℤ, ◌++◌, List, Some, None, refl, sym, ap, ap₂, ◌∙◌, arith, rules, length, w32}
 use mir.Val.{SFits}
 use Rattle.evm_cells.specs.Vertices.{IsVertexList}
-use Rattle.evm_rows.specs.Rows.{AreRows, rows_of, flat_of, xor_rows, combined_rows}
+use Rattle.evm_rows.specs.Rows.{rows_of, flat_of, xor_rows, combined_rows}
 use Rattle.evm_rows.specs.View.{vertices_of}
 use Rattle.evm_rows.proofs.RowsLaws.{rows_of-nil}
-use Rattle.evm_rows.proofs.Bridge.{are_rows-nil}
 use Rattle.evm_sections.specs.Couplets.{first_height}
 use Rattle.evm_sections.proofs.Bits.{same32}
 use Rattle.evm_boolean.specs.Tower.{lower, after, section_at, couplet_here, under, fills}
 use Rattle.evm_boolean.proofs.Cuts.{cuts-fall}
 use Rattle.evm_boolean.proofs.TowerCells.{tower_is_at, fills-none, op-both_none, section-here}
-use Rattle.evm_boolean.proofs.TowerSteps.{tower, cuts_of, tower_more, tower_done}
+use Rattle.evm_boolean.proofs.TowerSteps.{tower_more, tower_done}
 use Rattle.evm_boolean.proofs.Answer.{answer_rows, answer_is}
 use Rattle.evm_boolean.proofs.LineSteps.{none_rows}
 use Rattle.evm_boolean.proofs.plane.combine_planes.Goals as goal

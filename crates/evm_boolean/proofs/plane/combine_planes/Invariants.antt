@@ -1,4 +1,4 @@
-use Rattle.std.proofs.Common.{◌≡◌, ℕ, ◌+◌, ◌++◌, length}
+use Rattle.std.proofs.Common.{◌≡◌, ◌+◌, ◌++◌, length}
 use Rattle.evm_rows.specs.Rows.{AreRows, rows_of, flat_of, combined_rows}
 use Rattle.evm_boolean.specs.Tower.{fills}
 use Rattle.evm_boolean.proofs.TowerSteps.{tower, cuts_of}

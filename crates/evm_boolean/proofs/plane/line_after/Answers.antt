@@ -1,4 +1,4 @@
-use Rattle.std.proofs.Common.{◌≡◌, List, ℤ, [], sym, arith}
+use Rattle.std.proofs.Common.{arith}
 use Rattle.evm_rows.specs.Rows.{rows_of}
 use Rattle.evm_rows.proofs.RowsLaws.{rows_of-none}
 use Rattle.evm_boolean.proofs.TowerCells.{xor-none}

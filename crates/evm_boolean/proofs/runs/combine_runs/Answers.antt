@@ -1,17 +1,14 @@
-use Rattle.std.proofs.Common.{◌≡◌, ℕ, ◌+◌, ◌-◌, ℤ, true, ◌++◌, [], ◌∷◌, List, Some, None, refl, sym, ap, ap₂, ◌∙◌, arith, rules, w32}
+use Rattle.std.proofs.Common.{◌≡◌, ◌++◌, Some, None, refl, sym, ap, ◌∙◌, arith, rules, w32}
 use mir.Val.{SFits}
-use Rattle.evm_cells.specs.Booleans.{xor}
 use Rattle.evm_cells.specs.Vertices.{IsVertexList}
 use Rattle.evm_rows.specs.Rows.{rows_of, flat_of, xor_rows, combined_rows}
-use Rattle.evm_rows.proofs.RowsOrder.{rows_of-flat_of}
-use Rattle.evm_rows.proofs.Bridge.{are_rows-flat, vertices-op, wide-points}
 use Rattle.evm_sections.specs.Couplets.{first_height}
 use Rattle.evm_sections.proofs.Bits.{same32}
 use Rattle.evm_boolean.specs.Tower.{under, lower, after, section_at, fills}
 use Rattle.evm_sections.specs.Couplets.{mark}
 use Rattle.evm_sections.proofs.Zero.{xor_rows-mark, combined_rows-mark}
 use Rattle.evm_boolean.proofs.TowerCells.{tower_is_at, fills-none}
-use Rattle.evm_boolean.proofs.TowerSteps.{tower, cuts_of, tower_more, tower_done}
+use Rattle.evm_boolean.proofs.TowerSteps.{tower_more, tower_done}
 use Rattle.evm_boolean.proofs.Answer.{answer_rows, answer_is}
 use Rattle.evm_boolean.proofs.runs.combine_runs.Goals as goal
 

@@ -1,4 +1,4 @@
-use Rattle.std.proofs.Common.{◌≡◌, ◌++◌, ◌-◌, ap, ◌∙◌, arith, sym, w32}
+use Rattle.std.proofs.Common.{◌++◌, ◌-◌, ap, ◌∙◌, arith}
 use Rattle.evm_cells.specs.Vertices.{IsVertexList}
 use Rattle.evm_rows.specs.Rows.{rows_of, flat_of}
 use Rattle.evm_rows.proofs.RowsLaws.{rows_of-none}

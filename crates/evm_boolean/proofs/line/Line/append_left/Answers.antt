@@ -1,4 +1,4 @@
-use Rattle.std.proofs.Common.{◌≡◌, ◌++◌, ap, ◌∙◌, sym}
+use Rattle.std.proofs.Common.{◌++◌, ap, ◌∙◌}
 use Rattle.evm_boolean.specs.Lines.{Course}
 use Rattle.evm_boolean.proofs.LineSteps.{left-flat, left-numbers}
 use Rattle.evm_boolean.proofs.line.Line.append_left.Goals as goal

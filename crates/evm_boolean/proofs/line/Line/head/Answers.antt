@@ -1,9 +1,8 @@
-use Rattle.std.proofs.Common.{sym, arith, rules, w32, ap, ◌∙◌}
+use Rattle.std.proofs.Common.{sym, arith, rules, w32}
 use mir.Val.{SFits}
 use Rattle.evm_rows.specs.Rows.{rows_of}
 use Rattle.evm_rows.proofs.RowsLaws.{rows_of-none}
 use Rattle.evm_sections.proofs.Bits.{same32}
-use Rattle.evm_boolean.specs.Lines.{Course, head_of}
 use Rattle.evm_boolean.proofs.LineSteps.{firsts-first, firsts-none, head-first, head-none}
 use Rattle.evm_boolean.proofs.line.Line.head.Goals as goal
 

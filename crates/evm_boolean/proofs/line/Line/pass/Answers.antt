@@ -2,7 +2,7 @@ use Rattle.std.proofs.Common.{◌≡◌, sym, arith, rules, w32, of_z, ap, ◌�
 use mir.Val.{SFits}
 use Rattle.evm_rows.specs.Rows.{rows_of}
 use Rattle.evm_rows.proofs.RowsLaws.{rows_of-none}
-use Rattle.evm_sections.proofs.Bits.{same32, same_bits}
+use Rattle.evm_sections.proofs.Bits.{same_bits}
 use Rattle.evm_boolean.specs.Lines.{Course, firsts}
 use Rattle.evm_boolean.proofs.LineSteps.{firsts-first, firsts-none, passed-none, passed-yes, passed-no}
 use Rattle.evm_boolean.proofs.line.Line.pass.Goals as goal
