@@ -1,0 +1,66 @@
+-- Figures: the solids of a scene, each a cell set with its dimension.
+use Rattle.std.specs.Prelude.{ℕ, ◌==◌, Bool, ◌&&◌, if◌then◌else◌, ℤ, List, [], length}
+use Rattle.std.specs.List.{list_all}
+use Rattle.evm_cells.specs.Places.{has}
+use Rattle.evm_cells.specs.Booleans.{or_cells, sub_cells, xor_cells}
+use Rattle.evm_cells.specs.Vertices.{evm}
+use Rattle.evm_cells.specs.Boxes.{box_cells, is_box}
+use Rattle.evm_cells.specs.Measures.{content, boundary, is_inside, is_outside}
+
+-- a dimension, and cells of it in ascending order
+pub record Figure : Type 0 where
+  pub dim : ℕ
+  pub cells : List (List ℤ)
+
+-- no cell
+unfoldable pub nothing : ℕ → Figure
+nothing n = record { dim = n; cells = [] }
+
+-- the cells from the corner lo up to, but not at, hi on each axis
+unfoldable pub box_of : List ℤ → List ℤ → Figure
+box_of lo hi = record { dim = length lo; cells = box_cells (length lo) lo hi }
+
+-- the two corners are in the limits, and the box has room on each axis
+unfoldable pub box_fits : List ℤ → List ℤ → Bool
+box_fits lo hi = is_box (length lo) lo hi
+
+-- the cells of just one of two figures
+unfoldable pub xor_of : Figure → Figure → Figure
+xor_of a b = record { dim = a.dim; cells = xor_cells a.dim a.cells b.cells }
+
+-- the cells of either
+unfoldable pub or_of : Figure → Figure → Figure
+or_of a b = record { dim = a.dim; cells = or_cells a.dim a.cells b.cells }
+
+-- the cells of the first that are not of the second
+unfoldable pub sub_of : Figure → Figure → Figure
+sub_of a b = record { dim = a.dim; cells = sub_cells a.dim a.cells b.cells }
+
+-- the extreme vertices, ascending
+unfoldable pub vertices_in : Figure → List (List ℤ)
+vertices_in a = evm a.dim a.cells
+
+-- equal dimensions and the same cells
+unfoldable pub same_figure : Figure → Figure → Bool
+same_figure a b = a.dim == b.dim && list_all (has b.cells) a.cells && list_all (has a.cells) b.cells
+
+-- the number of cells
+unfoldable pub content_of : Figure → ℕ
+content_of a = content a.cells
+
+-- the number of pairs of neighbouring places of which just one is a cell
+unfoldable pub boundary_of : Figure → ℕ
+boundary_of a = boundary a.dim a.cells
+
+-- whether a place is one of the cells
+unfoldable pub fills : Figure → List ℤ → Bool
+fills a cell = has a.cells cell
+
+-- where a point stands: all cells round it are filled, or some, or none
+pub data Place : Type 0 where
+  Inside : Place
+  Boundary : Place
+  Outside : Place
+
+unfoldable pub place_of : Figure → List ℤ → Place
+place_of a point = if is_inside a.dim a.cells point then Inside else if is_outside a.cells point then Outside else Boundary

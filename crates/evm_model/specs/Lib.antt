@@ -1,0 +1,6 @@
+pub mod Figures
+pub mod Scene
+pub mod Edits
+pub mod Replies
+pub mod Steps
+pub mod Runs

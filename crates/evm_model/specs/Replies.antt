@@ -1,0 +1,62 @@
+-- Replies and their bytes.
+use Rattle.std.specs.Prelude.{ℕ, ℤ, Bool, true, false, if◌then◌else◌, List, [], ◌∷◌, ◌++◌, length, codes, decimal, map, flat_map}
+use Rattle.std.specs.List.{join_with_byte}
+use Rattle.std.specs.Fmt.{signed_decimal}
+use Rattle.evm_model.specs.Figures.{Figure, Place, Inside, Boundary, Outside, vertices_in}
+use Rattle.evm_model.specs.Edits.{Code, Line, Syntax, Name, Taken, Dim, Range, Memory}
+
+-- nothing, a refusal, how many names changed, a figure, a measure, whether a cell is filled, or the place of a point
+pub data Reply : Type 0 where
+  Empty : Reply
+  No : Code → Reply
+  Changed : ℕ → Reply
+  Shown : Figure → Reply
+  Measured : ℕ → Reply
+  Filled : Bool → Reply
+  Placed : Place → Reply
+
+abbrev pub code_text : Code → List ℕ
+code_text Line = codes "line"
+code_text Syntax = codes "syntax"
+code_text Name = codes "name"
+code_text Taken = codes "taken"
+code_text Dim = codes "dim"
+code_text Range = codes "range"
+code_text Memory = codes "memory"
+
+abbrev pub place_text : Place → List ℕ
+place_text Inside = codes "inside"
+place_text Boundary = codes "boundary"
+place_text Outside = codes "outside"
+
+-- a text with LF at its end
+abbrev pub line_of : List ℕ → List ℕ
+line_of text = text ++ 10 ∷ []
+
+-- numbers with one space between them
+abbrev pub spaced : List ℤ → List ℕ
+spaced numbers = join_with_byte 32 (map signed_decimal numbers)
+
+-- one line a row
+abbrev pub rows_text : List (List ℤ) → List ℕ
+rows_text rows = flat_map (λ row. line_of (spaced row)) rows
+
+-- the bytes of a reply
+unfoldable pub reply_text : Reply → List ℕ
+reply_text Empty = []
+reply_text (No code) = line_of (codes "no " ++ code_text code)
+reply_text (Changed n) = line_of (codes "ok " ++ decimal n)
+reply_text (Shown a) = line_of (codes "ok " ++ decimal a.dim ++ 32 ∷ decimal (length (vertices_in a))) ++ rows_text (vertices_in a)
+reply_text (Measured n) = line_of (codes "ok " ++ decimal n)
+reply_text (Filled full) = line_of (codes "ok " ++ (if full then codes "filled" else codes "empty"))
+reply_text (Placed place) = line_of (codes "ok " ++ place_text place)
+
+-- whether a reply refuses
+abbrev pub is_no : Reply → Bool
+is_no Empty = false
+is_no (No code) = true
+is_no (Changed n) = false
+is_no (Shown a) = false
+is_no (Measured n) = false
+is_no (Filled full) = false
+is_no (Placed place) = false

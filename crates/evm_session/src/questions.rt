@@ -1,0 +1,127 @@
+// Questions about a name.
+ghost use Rattle.std.specs.Prelude.{◌≡◌};
+ghost use Rattle.evm_model.specs.Steps.{turn_of};
+ghost use Rattle.evm_session.specs.Carried.{Carries};
+ghost use Rattle.evm_session.specs.Questions.{filled_text, placed_text};
+ghost use Rattle.evm_script.specs.declared.command.Command.TheVariants as commands;
+
+use super::inputs::Inputs;
+use super::numbers::coordinates;
+use super::refusals::Refusal;
+use super::replies::{say, say_number, say_solid};
+use evm_measure as measure;
+use evm_member::{Place, fills, place};
+use evm_rows::limit;
+use evm_script::{Name, Nums};
+use std::alloc::Global;
+
+/// The extreme vertices.
+pub fn show(inputs: &Inputs, name: &Name, out: &mut Vec<u8>) -> Result<(), Refusal>
+    ensures { Carries result inputs.now inputs.now out.old.items out.new.items (turn_of inputs.now (commands.Show name.now)) }
+{
+    let Some(solid) = inputs.solid(name) else {
+        return Err(Refusal::Name);
+    };
+    say_solid(out, solid)?;
+    Ok(())
+}
+
+/// The number of cells.
+pub fn content(
+    inputs: &Inputs,
+    alloc: Global,
+    name: &Name,
+    out: &mut Vec<u8>,
+) -> Result<(), Refusal>
+    ensures { Carries result inputs.now inputs.now out.old.items out.new.items (turn_of inputs.now (commands.Content name.now)) }
+{
+    let Some(solid) = inputs.solid(name) else {
+        return Err(Refusal::Name);
+    };
+    let cells = measure::content(alloc, solid.rows())?;
+    say_number(out, cells)?;
+    Ok(())
+}
+
+/// The number of faces between a cell and a place that is no cell.
+pub fn boundary(
+    inputs: &Inputs,
+    alloc: Global,
+    name: &Name,
+    out: &mut Vec<u8>,
+) -> Result<(), Refusal>
+    ensures { Carries result inputs.now inputs.now out.old.items out.new.items (turn_of inputs.now (commands.Boundary name.now)) }
+{
+    let Some(solid) = inputs.solid(name) else {
+        return Err(Refusal::Name);
+    };
+    let faces = measure::boundary(alloc, solid.rows())?;
+    say_number(out, faces)?;
+    Ok(())
+}
+
+/// Whether a cell is filled.
+pub fn at(inputs: &Inputs, name: &Name, nums: &Nums, out: &mut Vec<u8>) -> Result<(), Refusal>
+    ensures { Carries result inputs.now inputs.now out.old.items out.new.items (turn_of inputs.now (commands.At name.now nums.now)) }
+{
+    let Some(solid) = inputs.solid(name) else {
+        return Err(Refusal::Name);
+    };
+    solid.facts();
+    let dim = solid.dim();
+    if nums.len() != dim {
+        return Err(Refusal::Dim);
+    }
+    let limit = limit(dim);
+    let Some(cell) = coordinates(nums.values(), -limit, limit - 1) else {
+        return Err(Refusal::Range);
+    };
+    let filled = fills(solid.rows(), &cell[..dim]);
+    say(out, filled_text(filled))?;
+    Ok(())
+}
+
+/// The reply that tells whether a cell is filled.
+#[tactic(auto, unfolding(evm_model::specs::Replies::reply_text))]
+fn filled_text(filled: bool) -> &'static [u8]
+    ensures { result.now ≡ filled_text filled }
+{
+    if filled {
+        b"ok filled\n"
+    } else {
+        b"ok empty\n"
+    }
+}
+
+/// Where a point stands.
+pub fn point(inputs: &Inputs, name: &Name, nums: &Nums, out: &mut Vec<u8>) -> Result<(), Refusal>
+    ensures { Carries result inputs.now inputs.now out.old.items out.new.items (turn_of inputs.now (commands.Point name.now nums.now)) }
+{
+    let Some(solid) = inputs.solid(name) else {
+        return Err(Refusal::Name);
+    };
+    solid.facts();
+    let dim = solid.dim();
+    if nums.len() != dim {
+        return Err(Refusal::Dim);
+    }
+    let limit = limit(dim);
+    let Some(point) = coordinates(nums.values(), -limit, limit) else {
+        return Err(Refusal::Range);
+    };
+    let place = place(solid.rows(), &point[..dim]);
+    say(out, placed_text(place))?;
+    Ok(())
+}
+
+/// The reply that tells where a point stands.
+#[tactic(auto, unfolding(evm_model::specs::Replies::reply_text))]
+fn placed_text(place: Place) -> &'static [u8]
+    ensures { result.now ≡ placed_text place }
+{
+    match place {
+        Place::Inside => b"ok inside\n",
+        Place::Boundary => b"ok boundary\n",
+        Place::Outside => b"ok outside\n",
+    }
+}

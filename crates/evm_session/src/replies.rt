@@ -1,0 +1,101 @@
+// Appends replies. Where memory ends, a part of a reply may stand behind what was there.
+ghost use Rattle.std.specs.Prelude.{◌≡◌, ◌++◌, ◌∷◌, [], ◌<◌, codes, decimal, length};
+ghost use Rattle.std.specs.Fmt.{signed_decimal};
+ghost use Rattle.evm_model.specs.Replies.{line_of, spaced, rows_text, reply_text, Shown};
+ghost use Rattle.evm_rows.specs.View.{vertices_of};
+ghost use Rattle.evm_session.specs.Fields.{figure_of};
+ghost use Rattle.evm_session.specs.Says.{Says, behind_spaces};
+
+use evm_rows::{NoMemory, Rows, Solid, split_row};
+use itoa::Buffer;
+
+/// Appends a text.
+pub fn say(out: &mut Vec<u8>, text: &[u8]) -> Result<(), NoMemory>
+    ensures { Says result out.old.items out.new.items text.now }
+{
+    out.extend_from_slice(text)?;
+    Ok(())
+}
+
+/// Appends a count in decimal.
+fn say_count(out: &mut Vec<u8>, count: u128) -> Result<(), NoMemory>
+    ensures { Says result out.old.items out.new.items (decimal count) }
+{
+    let mut digits = Buffer::new();
+    say(out, digits.format(count).as_bytes())
+}
+
+/// Appends a coordinate in decimal.
+fn say_coordinate(out: &mut Vec<u8>, x: i32) -> Result<(), NoMemory>
+    ensures { Says result out.old.items out.new.items (signed_decimal x) }
+{
+    let mut digits = Buffer::new();
+    say(out, digits.format(x).as_bytes())
+}
+
+/// Appends the reply `ok N`.
+pub fn say_number(out: &mut Vec<u8>, n: u128) -> Result<(), NoMemory>
+    ensures { Says result out.old.items out.new.items (line_of (codes "ok " ++ decimal n)) }
+{
+    say(out, b"ok ")?;
+    say_count(out, n)?;
+    say(out, b"\n")
+}
+
+/// Appends a coordinate behind a space.
+fn say_behind_space(out: &mut Vec<u8>, x: i32) -> Result<(), NoMemory>
+    ensures { Says result out.old.items out.new.items (32 ∷ signed_decimal x) }
+{
+    say(out, b" ")?;
+    say_coordinate(out, x)
+}
+
+/// Appends each coordinate behind a space.
+fn say_behind_spaces(out: &mut Vec<u8>, coordinates: &[i32]) -> Result<(), NoMemory>
+    ensures { Says result out.old.items out.new.items (behind_spaces coordinates.now) }
+{
+    for x in coordinates {
+        say_behind_space(out, *x)?;
+    }
+    Ok(())
+}
+
+/// Appends a row: its coordinates with a space between each two, and LF.
+fn say_row(out: &mut Vec<u8>, row: &[i32]) -> Result<(), NoMemory>
+    ensures { Says result out.old.items out.new.items (line_of (spaced row.now)) }
+{
+    match row.split_first() {
+        None => say(out, b"\n"),
+        Some((first, rest)) => {
+            say_coordinate(out, *first)?;
+            say_behind_spaces(out, rest)?;
+            say(out, b"\n")
+        }
+    }
+}
+
+/// Appends each row as a line.
+fn say_rows(out: &mut Vec<u8>, rows: Rows<'_>) -> Result<(), NoMemory>
+    ensures { Says result out.old.items out.new.items (rows_text (vertices_of rows.entry).rows) }
+{
+    let mut left = rows.flat;
+    while left.len() != 0 {
+        let (row, rest) = split_row(left, rows.width, rows.skip);
+        say_row(out, row)?;
+        left = rest;
+    }
+    Ok(())
+}
+
+/// Appends the reply `ok n COUNT`, and the rows, each as a line.
+pub fn say_solid(out: &mut Vec<u8>, solid: &Solid) -> Result<(), NoMemory>
+    ensures { Says result out.old.items out.new.items (reply_text (Shown (figure_of solid.now))) }
+{
+    solid.facts();
+    say(out, b"ok ")?;
+    say_count(out, solid.dim() as u128)?;
+    say(out, b" ")?;
+    say_count(out, solid.len() as u128)?;
+    say(out, b"\n")?;
+    say_rows(out, solid.rows())
+}

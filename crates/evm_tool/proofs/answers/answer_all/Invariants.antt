@@ -1,0 +1,14 @@
+use Rattle.std.proofs.Common.{◌≡◌, length}
+use Rattle.evm_model.specs.Runs.{lines}
+use Rattle.evm_tool.specs.Served.{Progress}
+use Rattle.evm_tool.proofs.answers.answer_all.Given as goal
+
+abbrev pub invariant-loop-rest : goal.invariant-loop-rest
+invariant-loop-rest g l =
+    record {
+      so_far : Progress (lines l.script) (lines l.rest) l.session (g.O.Sink.written l.fn.output) (g.O.Sink.written l.output) l.refused;
+      faults : g.O.Sink.faults l.output ≡ g.O.Sink.faults l.fn.output;
+    }
+
+abbrev pub decreases-loop-rest : goal.decreases-loop-rest
+decreases-loop-rest g l = length l.rest

@@ -1,0 +1,46 @@
+//! The program `evm`: `evm run` answers a script of edits and questions on solids, line by line.
+//!
+//! The script comes from standard input and the replies go to standard output. All that the program does is in
+//! [`evm_main`], over any source and sink; `main` makes the real ones.
+#![tactic(auto)]
+
+mod answers;
+mod send;
+mod take;
+#[cfg(test)]
+mod tests;
+mod top;
+
+use evm_outside::{StdSink, StdSource};
+use std::env;
+use std::io::ErrorKind;
+use std::process::ExitCode;
+use top::{Status, evm_main};
+
+/// The words of the command line. A word that is not UTF-8 makes no run.
+fn words_of(rt: &HostRuntime) -> Result<Vec<String>, Status> {
+    let args = match env::args(rt) {
+        Ok(args) => args,
+        Err(error) if error.kind() == ErrorKind::OutOfMemory => return Err(Status::NoMemory),
+        Err(_) => return Err(Status::Words),
+    };
+    match args.collect(rt.alloc()) {
+        Ok(words) => Ok(words),
+        Err(_) => Err(Status::NoMemory),
+    }
+}
+
+fn main(rt: HostRuntime) -> ExitCode {
+    let status = match words_of(&rt) {
+        Ok(words) => {
+            let mut input = StdSource::new(rt.stdin());
+            let mut output = StdSink::new(rt.stdout());
+            evm_main(rt.alloc(), words.as_slice(), &mut input, &mut output)
+        }
+        Err(status) => status,
+    };
+    if status == Status::Words {
+        let _ = eprintln!(rt; "usage: evm run");
+    }
+    ExitCode::from(status.code())
+}

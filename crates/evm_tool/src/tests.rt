@@ -1,0 +1,215 @@
+//! Whole runs over a source and a sink in memory: their replies and how they end.
+
+use super::take::{PIECE, SCRIPT_LIMIT};
+use super::top::{Status, evm_main};
+use evm_outside::{MemSink, MemSource};
+use std::alloc::{AllocError, Global};
+use std::str;
+use std::test::Fail;
+
+/// Words of a command line.
+fn words_of(alloc: Global, texts: &[&str]) -> Result<Vec<String>, AllocError> {
+    let mut words = Vec::new(alloc);
+    for text in texts {
+        words.push(text.to_string(alloc)?)?;
+    }
+    Ok(words)
+}
+
+/// The text with a line for each part between ` / `.
+fn lines_of(alloc: Global, parts: &str) -> Result<String, AllocError> {
+    let mut lines = parts.replace(alloc, " / ", "\n")?;
+    lines.push('\n')?;
+    Ok(lines)
+}
+
+/// The bytes of a text.
+fn bytes_of(alloc: Global, text: &str) -> Result<Vec<u8>, AllocError> {
+    let mut bytes = Vec::new(alloc);
+    bytes.extend_from_slice(text.as_bytes())?;
+    Ok(bytes)
+}
+
+/// So many spaces.
+fn spaces(alloc: Global, count: usize) -> Result<Vec<u8>, AllocError> {
+    vec![in alloc; b' '; count]
+}
+
+/// Runs a script from a source and to a sink that do not fail.
+fn run(alloc: Global, script: Vec<u8>) -> Result<(Status, MemSink), Fail> {
+    let words = words_of(alloc, &["evm", "run"])?;
+    let mut input = MemSource::new(script, PIECE, Vec::new(alloc));
+    let mut output = MemSink::new(alloc, 4096, Vec::new(alloc))?;
+    let status = evm_main(alloc, words.as_slice(), &mut input, &mut output);
+    Ok((status, output))
+}
+
+/// The boxes and what is asked of them, and the replies. The sign ` / ` stands between lines.
+const ANSWERED: [(&str, &str); 6] = [
+    (
+        "input a 2 / toggle a 0 0 2 3 / show a",
+        "ok 0 / ok 1 / ok 2 4 / 0 0 / 0 3 / 2 0 / 2 3",
+    ),
+    (
+        "input a 2 / add a 0 0 1 1 / add a 1 0 2 1 / show a / add a 0 0 1 1",
+        "ok 0 / ok 1 / ok 1 / ok 2 4 / 0 0 / 0 1 / 2 0 / 2 1 / ok 0",
+    ),
+    (
+        "input a 2 / add a 0 0 1 1 / add a 1 1 2 2 / show a / boundary a",
+        "ok 0 / ok 1 / ok 1 / ok 2 6 / 0 0 / 0 1 / 1 0 / 1 2 / 2 1 / 2 2 / ok 8",
+    ),
+    (
+        "input a 2 / add a 0 0 2 2 / add a 1 1 3 3 / content a / boundary a / point a 2 2 / cut a 2 2 3 3 / point a 2 2 / at a 2 2 / show a",
+        "ok 0 / ok 1 / ok 1 / ok 7 / ok 12 / ok inside / ok 1 / ok boundary / ok empty / ok 2 10 / 0 0 / 0 2 / 1 2 / 1 3 / 2 0 / 2 1 / 2 2 / 2 3 / 3 1 / 3 2",
+    ),
+    (
+        "input a 2 / add a 0 0 2 2 / add a 1 1 3 3 / show a / cut a 0 0 3 3 / show a",
+        "ok 0 / ok 1 / ok 1 / ok 2 8 / 0 0 / 0 2 / 1 2 / 1 3 / 2 0 / 2 1 / 3 1 / 3 3 / ok 1 / ok 2 0",
+    ),
+    (
+        "input a 6 / add a -524288 -524288 -524288 -524288 -524288 -524288 524288 524288 524288 524288 524288 524288 / content a / boundary a",
+        "ok 0 / ok 1 / ok 1329227995784915872903807060280344576 / ok 15211807202738752817960438464512",
+    ),
+];
+
+#[test]
+fn boxes_are_added_and_measured(rt: HostRuntime) -> Result<(), Fail> {
+    let alloc = rt.alloc();
+    for (script, replies) in ANSWERED {
+        let (status, output) = run(alloc, lines_of(alloc, script)?.into_bytes())?;
+        let wanted = lines_of(alloc, replies)?;
+        assert_eq!(rt;
+            str::from_utf8(output.bytes()),
+            Ok(wanted.as_str()),
+            "at {script}"
+        );
+        assert_eq!(rt; status, Status::Done, "at {script}");
+    }
+    Ok(())
+}
+
+/// Scripts of which some lines are refused, and the replies.
+const REFUSED: [(&str, &str); 2] = [
+    (
+        "input a 2 / add a 0 0 2 2 / add zz 5 5 1 1 / input a 7 / input z 7 / add a 0 0 0 1 1 1 / add a 0 0 0 1 / add a 524288 0 524289 1 / fly a / add a 0 0 1 12345678901 / content a",
+        "ok 0 / ok 1 / no name / no taken / no dim / no dim / no range / no range / no syntax / no syntax / ok 4",
+    ),
+    (
+        "input a 2 / toggle a 0 0 2 2 / point a 1 1 / point a 1 0 / point a 3 3 / at a 1 1 / at a 2 2 / at a 9999999999 0 / toggle a 1 1 3 3 / at a 1 1 / point a 2 2",
+        "ok 0 / ok 1 / ok inside / ok boundary / ok outside / ok filled / ok empty / no range / ok 1 / ok empty / ok boundary",
+    ),
+];
+
+#[test]
+fn a_refused_line_has_its_cause_and_changes_nothing(rt: HostRuntime) -> Result<(), Fail> {
+    let alloc = rt.alloc();
+    for (script, replies) in REFUSED {
+        let (status, output) = run(alloc, lines_of(alloc, script)?.into_bytes())?;
+        let wanted = lines_of(alloc, replies)?;
+        assert_eq!(rt;
+            str::from_utf8(output.bytes()),
+            Ok(wanted.as_str()),
+            "at {script}"
+        );
+        assert_eq!(rt; status, Status::Refused, "at {script}");
+    }
+    Ok(())
+}
+
+#[test]
+fn empty_lines_and_comments_have_no_reply_and_line_ends_may_vary(
+    rt: HostRuntime,
+) -> Result<(), Fail> {
+    let alloc = rt.alloc();
+    let first_run = "ok 0\nok 1\nok 2 4\n0 0\n0 3\n2 0\n2 3\n";
+    let scripts = [
+        ("", ""),
+        ("# note\n", ""),
+        ("\n", ""),
+        ("   \n", ""),
+        ("input a 2\ntoggle a 0 0 2 3\nshow a", first_run),
+        ("input a 2\r\ntoggle a 0 0 2 3\r\nshow a\r\n", first_run),
+    ];
+    for (script, replies) in scripts {
+        let (status, output) = run(alloc, bytes_of(alloc, script)?)?;
+        assert_eq!(rt;
+            str::from_utf8(output.bytes()),
+            Ok(replies),
+            "at {script:?}"
+        );
+        assert_eq!(rt; status, Status::Done, "at {script:?}");
+    }
+    Ok(())
+}
+
+#[test]
+fn a_source_that_fails_in_mid_stream_leaves_nothing_written(rt: HostRuntime) -> Result<(), Fail> {
+    let alloc = rt.alloc();
+    let words = words_of(alloc, &["evm", "run"])?;
+    let mut failing = Vec::new(alloc);
+    failing.push(1)?;
+    let mut input = MemSource::new(bytes_of(alloc, "input a 2\ntogg")?, 14, failing);
+    let mut output = MemSink::new(alloc, 64, Vec::new(alloc))?;
+    let status = evm_main(alloc, words.as_slice(), &mut input, &mut output);
+    assert_eq!(rt; status, Status::ReadFault);
+    assert_eq!(rt; output.bytes().len(), 0);
+    Ok(())
+}
+
+#[test]
+fn a_sink_that_fails_cuts_the_replies(rt: HostRuntime) -> Result<(), Fail> {
+    let alloc = rt.alloc();
+    let words = words_of(alloc, &["evm", "run"])?;
+    // The number of the call that fails, the room, and what is written then.
+    for (number, room, written) in [(0, 64, ""), (1, 64, "ok 0\n"), (9, 7, "ok 0\nok")] {
+        let script = bytes_of(alloc, "input a 2\ntoggle a 0 0 2 3\nshow a\n")?;
+        let mut failing = Vec::new(alloc);
+        failing.push(number)?;
+        let mut input = MemSource::new(script, PIECE, Vec::new(alloc));
+        let mut output = MemSink::new(alloc, room, failing)?;
+        let status = evm_main(alloc, words.as_slice(), &mut input, &mut output);
+        assert_eq!(rt; status, Status::WriteFault, "at call {number}");
+        assert_eq!(rt;
+            str::from_utf8(output.bytes()),
+            Ok(written),
+            "at call {number}"
+        );
+    }
+    Ok(())
+}
+
+#[test]
+fn a_script_may_be_as_long_as_the_limit(rt: HostRuntime) -> Result<(), Fail> {
+    let alloc = rt.alloc();
+    let (status, output) = run(alloc, spaces(alloc, SCRIPT_LIMIT)?)?;
+    assert_eq!(rt; str::from_utf8(output.bytes()), Ok("no line\n"));
+    assert_eq!(rt; status, Status::Refused);
+    let (status, output) = run(alloc, spaces(alloc, SCRIPT_LIMIT + 1)?)?;
+    assert_eq!(rt; output.bytes().len(), 0);
+    assert_eq!(rt; status, Status::TooLong);
+    Ok(())
+}
+
+#[test]
+fn other_words_than_those_of_a_run_are_refused(rt: HostRuntime) -> Result<(), Fail> {
+    let alloc = rt.alloc();
+    let faulty: [&[&str]; 8] = [
+        &[],
+        &["evm"],
+        &["evm", "walk"],
+        &["evm", "run", "x"],
+        &["evm", "gen", "--seed", "1"],
+        &["evm", "gen", "--seed", "1", "--seed", "2", "--edits", "3"],
+        &["evm", "gen", "--seed", "1", "--edits", "0"],
+        &["evm", "--help"],
+    ];
+    for texts in faulty {
+        let words = words_of(alloc, texts)?;
+        let mut input = MemSource::new(bytes_of(alloc, "input a 2\n")?, PIECE, Vec::new(alloc));
+        let mut output = MemSink::new(alloc, 64, Vec::new(alloc))?;
+        let status = evm_main(alloc, words.as_slice(), &mut input, &mut output);
+        assert_eq!(rt; status, Status::Words, "at {texts:?}");
+        assert_eq!(rt; output.bytes().len(), 0, "at {texts:?}");
+    }
+    Ok(())
+}

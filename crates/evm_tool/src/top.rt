@@ -1,0 +1,102 @@
+//! The top call.
+
+ghost use Rattle.std.specs.Prelude.{◌≡◌, map, IfSome, false, string_bytes};
+ghost use Rattle.evm_tool.specs.Top.{is_run, WritesTo, Spares, Takes, ReadFaults, WriteFaults, Completes, cut_status, exit_code};
+
+use super::answers::answer_all;
+use super::take::{Cut, read_script};
+use evm_outside::{Sink, Source};
+use std::alloc::Global;
+
+/// How a call of [`evm_main`] ended. The exit statuses are 0 to 6, in this order.
+#[derive(Clone, Copy, Debug, PartialEq, Eq)]
+pub enum Status {
+    /// All lines were answered, and none was refused.
+    Done,
+    /// All lines were answered, and some were refused.
+    Refused,
+    /// The words are not those of a run.
+    Words,
+    /// The source failed. No line was answered.
+    ReadFault,
+    /// The sink failed. Only a front of the replies was written.
+    WriteFault,
+    /// No memory was left for the script or the session. No line was answered.
+    NoMemory,
+    /// The script is longer than a script may be. No line was answered.
+    TooLong,
+}
+
+impl Status {
+    /// The exit status of the program.
+    pub fn code(self) -> u8
+        ensures { result ≡ exit_code self }
+    {
+        match self {
+            Status::Done => 0,
+            Status::Refused => 1,
+            Status::Words => 2,
+            Status::ReadFault => 3,
+            Status::WriteFault => 4,
+            Status::NoMemory => 5,
+            Status::TooLong => 6,
+        }
+    }
+}
+
+/// The status of a script that was not read whole.
+fn status_of(cut: Cut) -> Status
+    ensures { result ≡ cut_status cut }
+{
+    match cut {
+        Cut::Fault => Status::ReadFault,
+        Cut::TooLong => Status::TooLong,
+        Cut::NoMemory => Status::NoMemory,
+    }
+}
+
+/// Whether the words are those of a run.
+fn names_run(words: &[String]) -> bool
+    ensures { result ≡ is_run (map string_bytes words.now) }
+{
+    match words {
+        [_, word] => word.as_str() == "run",
+        _ => false,
+    }
+}
+
+/// Answers the script that the source gives, after reading it whole.
+///
+/// `words` are those of the command line: the program's name, and `run`. A script has at most
+/// [`SCRIPT_LIMIT`](super::take::SCRIPT_LIMIT) bytes, and its lines end in LF or CR LF; the last may lack it. The
+/// replies go out in the order of the lines, each before the next line is answered. A line for which memory is
+/// missing has the reply `no memory`. Memory is taken for the script, one piece of it, one reply and the session.
+pub fn evm_main<I: Source, O: Sink>(
+    alloc: Global,
+    words: &[String],
+    input: &mut I,
+    output: &mut O,
+) -> Status
+    // The replies to the lines of the script: whole at status 0 and 1, a front of them at 4, else nothing.
+    ensures text { IfSome (I.left input.old) (λ script. WritesTo (O.written output.old) (O.written output.new) result script) }
+    ensures spares { Spares result (O.written output.old) (O.written output.new) }
+    // Status 2 comes exactly where the words are not those of a run.
+    ensures words { result ≡ Status.Words → is_run (map string_bytes words.now) ≡ false }
+    ensures other_words { is_run (map string_bytes words.now) ≡ false → result ≡ Status.Words }
+    // What was taken: status 6 comes exactly where one byte more than the limit was, want of memory aside.
+    ensures taken { Takes result (I.left input.old) (I.left input.new) }
+    // A fault is answered only where its count rose, and a count rises only then.
+    ensures reads { ReadFaults result (I.faults input.old) (I.faults input.new) }
+    ensures sends { WriteFaults result (O.faults output.old) (O.faults output.new) }
+    // A run of a script that is not too long is answered, unless a count rose or memory was missing.
+    ensures complete { IfSome (I.left input.old) (λ script. Completes result (map string_bytes words.now) script (I.faults input.old) (I.faults input.new) (O.faults output.old) (O.faults output.new)) }
+{
+    if !names_run(words) {
+        return Status::Words;
+    }
+    let mut script = Vec::new(alloc);
+    match read_script(alloc, input, &mut script) {
+        Ok(()) => answer_all(alloc, script.as_slice(), output),
+        Err(cut) => status_of(cut),
+    }
+}
