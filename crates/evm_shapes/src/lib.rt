@@ -3,3 +3,6 @@
 
 mod moves;
 mod order;
+mod turns;
+
+pub use turns::{mirror, swap};
