@@ -142,21 +142,21 @@ pub cell_set-lift : (n i : ℕ) (lo hi : ℤ) (S : List (List ℤ)) → IsCellSe
 unfolding lift
 cell_set-lift n i lo hi S = cell_set-filter n (λ d. has S (without i d) && between lo hi (coord i d))
 
-lifted_cell : (n i : ℕ) (lo hi k : ℤ) (c : List ℤ) → is_point_coord n lo ≡ true → is_point_coord n hi ≡ true → is_cell n c ≡ true → between lo hi k ≡ true → is_cell (suc n) (with_at i k c) ≡ true
+lifted_cell : (n i : ℕ) (lo hi k : ℤ) (c : List ℤ) → is_point_coord (suc n) lo ≡ true → is_point_coord (suc n) hi ≡ true → is_cell n c ≡ true → between lo hi k ≡ true → is_cell (suc n) (with_at i k c) ≡ true
 lifted_cell n i lo hi k c a b h r =
     let (e, w) = cell_parts n c h in
-    let (u, v) = point_is n lo a in
-    let (x, y) = point_is n hi b in
+    let (u, v) = point_is (suc n) lo a in
+    let (x, y) = point_is (suc n) hi b in
     let z = length-with_at i k c in
     let p : lo ≤ℤ k = le_is lo k (and_first (int_le lo k) (int_lt k hi) r) in
     let q : k <ℤ hi = lt_is k hi (and_second (int_le lo k) (int_lt k hi) r) in
     cell_from (suc n) (with_at i k c) (z ∙ ap suc e)
-    (ap (λ f. list_all f (with_at i k c)) (λ j m. cell_coord-any (suc n) n m j)
-    ∙ all-with_at (is_cell_coord n) i k c
-    ∙ and_both (is_cell_coord n k) (list_all (is_cell_coord n) c) (cell_yes n k (omega (arith, int_facts)) (omega (arith, int_facts))) w)
+    (all-with_at (is_cell_coord (suc n)) i k c
+    ∙ and_both (is_cell_coord (suc n) k) (list_all (is_cell_coord (suc n)) c) (cell_yes (suc n) k (omega (arith, int_facts)) (omega (arith, int_facts)))
+    (ap (λ f. list_all f c) (λ j m. cell_coord-any (suc n) n m j) ∙ w))
 
 -- a section of the prism is its base, or empty
-slice-lift : (n i : ℕ) (lo hi k : ℤ) (S : List (List ℤ)) → i < suc n → IsCellSet n S → is_point_coord n lo ≡ true → is_point_coord n hi ≡ true → slice n i k (lift (suc n) i lo hi S) ≡ cond (between lo hi k) S []
+slice-lift : (n i : ℕ) (lo hi k : ℤ) (S : List (List ℤ)) → i < suc n → IsCellSet n S → is_point_coord (suc n) lo ≡ true → is_point_coord (suc n) hi ≡ true → slice n i k (lift (suc n) i lo hi S) ≡ cond (between lo hi k) S []
 slice-lift n i lo hi k S l h a b = at (between lo hi k) refl
   where
     T : List (List ℤ)
@@ -201,7 +201,7 @@ ends_of lo hi x h =
     (λ u. rw (eq_no lo x (λ e. omega (arith, int_facts)), eq_yes hi x (sym u), le_yes lo (x -ℤ pos 1) (omega (arith, int_facts)), le_yes lo x (omega (arith, int_facts)), lt_yes (x -ℤ pos 1) hi (omega (arith, int_facts)), lt_no x hi (omega (arith, int_facts))))
     (λ u. rw (eq_no lo x (λ e. omega (arith, int_facts)), eq_no hi x (λ e. omega (arith, int_facts)), le_yes lo (x -ℤ pos 1) (omega (arith, int_facts)), le_yes lo x (omega (arith, int_facts)), lt_no (x -ℤ pos 1) hi (omega (arith, int_facts)), lt_no x hi (omega (arith, int_facts)))))
 
-pub has-evm-lift : (n i : ℕ) (lo hi : ℤ) (S : List (List ℤ)) (p : List ℤ) → i < suc n → IsCellSet n S → length p ≡ suc n → is_point_coord n lo ≡ true → is_point_coord n hi ≡ true → int_lt lo hi ≡ true
+pub has-evm-lift : (n i : ℕ) (lo hi : ℤ) (S : List (List ℤ)) (p : List ℤ) → i < suc n → IsCellSet n S → length p ≡ suc n → is_point_coord (suc n) lo ≡ true → is_point_coord (suc n) hi ≡ true → int_lt lo hi ≡ true
     → has (evm (suc n) (lift (suc n) i lo hi S)) p ≡ ((int_eq lo (coord i p) || int_eq hi (coord i p)) && has (evm n S) (without i p))
 unfolding couplet
 has-evm-lift n i lo hi S p l h e a b m =

@@ -36,7 +36,7 @@ VerticesOfSlice = (n i : ℕ) (k : ℤ) (V : List (List ℤ)) (p : List ℤ) →
     → has (evm n (slice n i k (cells (suc n) V))) p ≡ odd (count_by (λ q. int_le (get_or q i (pos 0)) k && same (without i q) p) V)
 
 abbrev pub VerticesOfLift : Type 0
-VerticesOfLift = (n i : ℕ) (lo hi : ℤ) (S : List (List ℤ)) (p : List ℤ) → i < suc n → IsCellSet n S → length p ≡ suc n → is_point_coord n lo ≡ true → is_point_coord n hi ≡ true → int_lt lo hi ≡ true
+VerticesOfLift = (n i : ℕ) (lo hi : ℤ) (S : List (List ℤ)) (p : List ℤ) → i < suc n → IsCellSet n S → length p ≡ suc n → is_point_coord (suc n) lo ≡ true → is_point_coord (suc n) hi ≡ true → int_lt lo hi ≡ true
     → has (evm (suc n) (lift (suc n) i lo hi S)) p ≡ ((int_eq lo (get_or p i (pos 0)) || int_eq hi (get_or p i (pos 0))) && has (evm n S) (without i p))
 
 -- the projection is the union of the sections, and the same along an axis that is put first

@@ -1,3 +1,4 @@
 pub mod Sorted
 pub mod MoveSteps
 pub mod Shaped
+pub mod Sliced

@@ -31,14 +31,14 @@ negated_parts i [] l = absurd (omega arith)
 negated_parts zero (x ∷ row) l = refl
 negated_parts (suc i) (x ∷ row) l = ap (λ z. x ∷ z) (negated_parts i row (omega arith))
 
-without_parts : (i : ℕ) (row : List ℤ) → without i row ≡ take i row ++ drop (suc i) row
+pub without_parts : (i : ℕ) (row : List ℤ) → without i row ≡ take i row ++ drop (suc i) row
 unfolding without
 without_parts zero [] = refl
 without_parts (suc i) [] = refl
 without_parts zero (x ∷ row) = refl
 without_parts (suc i) (x ∷ row) = ap (λ z. x ∷ z) (without_parts i row)
 
-with_at_parts : (i : ℕ) (k : ℤ) (row : List ℤ) → i ≤ length row → with_at i k row ≡ take i row ++ (k ∷ drop i row)
+pub with_at_parts : (i : ℕ) (k : ℤ) (row : List ℤ) → i ≤ length row → with_at i k row ≡ take i row ++ (k ∷ drop i row)
 unfolding with_at
 with_at_parts zero k row l = refl
 with_at_parts (suc i) k [] l = absurd (omega arith)

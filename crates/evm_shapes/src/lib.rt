@@ -3,6 +3,10 @@
 
 mod moves;
 mod order;
+mod prisms;
+mod slices;
 mod turns;
 
+pub use prisms::lift;
+pub use slices::slice;
 pub use turns::{mirror, swap};
