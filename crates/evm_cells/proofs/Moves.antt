@@ -367,7 +367,7 @@ pub ascending-added : (n : ℕ) (d : List ℤ) (V : List (List ℤ)) → length 
 ascending-added n d V l a h =
     ascending-rising (map (added d) V) ∙ rising-added d V (ap (λ (m : ℕ). list_all (λ p. length p == m) V) l ∙ a) (sym (ascending-rising V) ∙ h)
 
-lengths-points : (n : ℕ) (V : List (List ℤ)) → list_all (is_point n) V ≡ true → list_all (λ p. length p == n) V ≡ true
+pub lengths-points : (n : ℕ) (V : List (List ℤ)) → list_all (is_point n) V ≡ true → list_all (λ p. length p == n) V ≡ true
 lengths-points n V a = all_weaker (is_point n) (λ q. length q == n) (λ q k. let (f, b) = point_parts n q k in eq-eqb (length q) n f) V a
 
 lengths-cells : (n : ℕ) (V : List (List ℤ)) → list_all (is_cell n) V ≡ true → list_all (λ p. length p == n) V ≡ true
@@ -388,7 +388,7 @@ has-added n d V p l a h e =
     (λ q k. let f : length q ≡ n = eqb-true (length q) n k in each-added int_eq eq-added d q p (omega arith) (omega arith)) V a
     ∙ xsum-same_place V (added (negs d) p) h
 
-cell_set-shift : (n : ℕ) (d : List ℤ) (S : List (List ℤ)) → length d ≡ n → IsCellSet n S → IsCellSet n (shift n d S)
+pub cell_set-shift : (n : ℕ) (d : List ℤ) (S : List (List ℤ)) → length d ≡ n → IsCellSet n S → IsCellSet n (shift n d S)
 unfolding shift
 cell_set-shift n d S l h = record {
   ascends = ascending-filter (is_cell n) (map (added d) S) (ascending-added n d S l (lengths-cells n S h.cells) h.ascends);

@@ -1,9 +1,9 @@
 -- Shapes of cell sets, cell by cell, and the moves of points that go with them. The number n is the dimension of the result;
 -- axes are counted from 0.
-use Rattle.std.specs.Prelude.{ℕ, zero, suc, Bool, ◌&&◌, ℤ, pos, negsuc, neg_ℤ, ◌+ℤ◌, ◌-ℤ◌, int_le, int_lt, List, [], ◌∷◌, map, filter, get_or, swap}
+use Rattle.std.specs.Prelude.{ℕ, zero, suc, ◌*◌, Bool, ◌&&◌, ◌==◌, ℤ, pos, negsuc, neg_ℤ, ◌+ℤ◌, ◌-ℤ◌, int_le, int_lt, List, [], ◌∷◌, length, map, filter, get_or, swap}
 use Rattle.std.specs.List.{list_any, list_all}
 use Rattle.evm_cells.specs.Places.{has, same, without, with_at}
-use Rattle.evm_cells.specs.Limits.{cells_where, is_cell}
+use Rattle.evm_cells.specs.Limits.{cells_where, is_cell, limit}
 use Rattle.evm_cells.specs.Booleans.{and_cells}
 use Rattle.evm_cells.specs.Boxes.{box_cells}
 
@@ -12,6 +12,10 @@ unfoldable pub added : List ℤ → List ℤ → List ℤ
 added [] c = []
 added (a ∷ d) [] = []
 added (a ∷ d) (x ∷ c) = (x +ℤ a) ∷ added d c
+
+-- a shift of dimension n: n numbers, each at most twice the limit in size
+unfoldable pub is_shift : ℕ → List ℤ → Bool
+is_shift n d = length d == n && list_all (λ a. int_le (neg_ℤ (pos (2 * limit n))) a && int_le a (pos (2 * limit n))) d
 
 -- the shift of S by d: the places c + d of its cells c that are cells (this project's own)
 unfoldable pub shift : ℕ → List ℤ → List (List ℤ) → List (List ℤ)

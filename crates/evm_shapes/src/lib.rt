@@ -4,9 +4,11 @@
 mod moves;
 mod order;
 mod prisms;
+mod shifts;
 mod slices;
 mod turns;
 
 pub use prisms::lift;
+pub use shifts::{ShapeError, shift};
 pub use slices::slice;
 pub use turns::{mirror, swap};

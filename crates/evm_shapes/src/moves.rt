@@ -89,7 +89,11 @@ fn append_moved(out: &mut Vec<i32>, row: &[i32], step: Move) -> Result<(), Alloc
 }
 
 // Appends each row of a view, moved.
-pub(crate) fn append_all_moved(out: &mut Vec<i32>, a: Rows<'_>, step: Move) -> Result<(), AllocError>
+pub(crate) fn append_all_moved(
+    out: &mut Vec<i32>,
+    a: Rows<'_>,
+    step: Move,
+) -> Result<(), AllocError>
     requires axes { IsMoveOf (vertices_of a).dim step }
     ensures { OnOk result (out.new.items ≡ out.old.items ++ flat_of (map (moved step) (vertices_of a.entry).rows)) }
 {

@@ -14,13 +14,7 @@ use std::alloc::Global;
 /// but not at, `hi`, both in the limits of vertices. Each row stands once at `lo` and once at `hi`; the two ascending
 /// lists are sorted into one. Takes memory for the rows of the prism twice, and for two references a row while they are
 /// sorted.
-pub fn lift(
-    alloc: Global,
-    a: Rows<'_>,
-    axis: usize,
-    lo: i32,
-    hi: i32,
-) -> Result<Solid, NoMemory>
+pub fn lift(alloc: Global, a: Rows<'_>, axis: usize, lo: i32, hi: i32) -> Result<Solid, NoMemory>
     requires room { (vertices_of a).dim ≤ 5 }
     requires low { 0 < axis }
     requires high { axis ≤ (vertices_of a).dim + 1 }

@@ -24,12 +24,7 @@ fn append_up_to(out: &mut Vec<i32>, row: &[i32], axis: usize, at: i32) -> Result
 }
 
 // Appends each row up to the height `at` on an axis, without its number there.
-fn append_all_up_to(
-    out: &mut Vec<i32>,
-    a: Rows<'_>,
-    axis: usize,
-    at: i32,
-) -> Result<(), AllocError>
+fn append_all_up_to(out: &mut Vec<i32>, a: Rows<'_>, axis: usize, at: i32) -> Result<(), AllocError>
     requires { axis < (vertices_of a).dim }
     ensures { OnOk result (out.new.items ≡ out.old.items ++ flat_of (map (without axis) (filter (λ q. int_le (get_or q axis (pos 0)) at) (vertices_of a.entry).rows))) }
 {
