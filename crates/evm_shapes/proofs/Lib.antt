@@ -3,3 +3,5 @@ pub mod MoveSteps
 pub mod Shaped
 pub mod Sliced
 pub mod Shifted
+pub mod Clipped
+pub mod United

@@ -2,78 +2,25 @@
 use Rattle.std.proofs.Common.{◌≡◌, ℕ, zero, suc, ◌+◌, ◌-◌, ◌<◌, ◌≤◌, ◌%◌, Bool, true, false, not, cond, ◌&&◌, ◌||◌, ◌==◌, ◌<ℤ◌, List, [], ◌∷◌, ◌++◌, length, take, drop, get_or, map, count_by, sum_by, ℤ, int_eq, int_lt, refl, sym, ap, ap₂, ◌∙◌, subst, arith, ⊎_elim, append_assoc, append-nil, eq-eqb, eqb-true, zero-add}
 use Rattle.std.specs.Prelude.{if◌then◌else◌}
 use Rattle.std.specs.List.{list_all}
-use Rattle.std.specs.declared.cmp.Ordering.{Ordering}
-use Rattle.std.specs.declared.cmp.Ordering.TheVariants.{Less, Equal, Greater}
-use Rattle.std.specs.Ordering.{is_lt, is_eq, int_cmp, ordering_reverse}
-use Rattle.std.specs.Cmp.{IsTotalOrder}
-use Rattle.std.specs.Cmp.Lexicographic.{slice_cmp}
-use Rattle.std.specs.List.Sorted.{IsPermutation, IsSorted}
-use Rattle.std.proofs.lemmas.Cmp.{lists_total, int_cmp_total}
+use Rattle.std.specs.List.Sorted.{IsPermutation}
 use Rattle.std.proofs.lemmas.List.{drop_more, map-append}
 use Rattle.std.proofs.lemmas.List.Sums.{sum_by-cons}
-use Rattle.std.specs.Cmp.Lexicographic.{pointwise}
 use Rattle.std.proofs.lemmas.List.Sorted.{IsPermutation-map, sum_by-IsPermutation}
 use Rattle.std.proofs.lemmas.Bool.{cases_lt, or_cases, or_left, or_right, false≢true, true≢false}
-use Rattle.std.proofs.lemmas.Int.{ints as int_facts}
 use denote.Ref.{Bor}
-use Rattle.evm_cells.specs.Places.{same, each, before, ascending, has}
+use Rattle.evm_cells.specs.Places.{same, before, ascending, has}
 use Rattle.evm_cells.specs.Booleans.{xor}
 use Rattle.evm_cells.specs.Vertices.{odd}
 use Rattle.evm_cells.proofs.Xor.{xsum, xsum-cons, odd-count, and_first, and_second, and_both, false-xor, xor_self, xor_assoc}
-use Rattle.evm_cells.proofs.Order.{refuted}
-use Rattle.evm_cells.proofs.Coords.{lt_is, lt_yes, eq_is, eq_yes}
 use Rattle.evm_cells.proofs.Places.{strict_places}
 use Rattle.evm_cells.proofs.Universe.{xsum-same_place}
 use Rattle.evm_rows.specs.Rows.{rows_of, flat_of, ascends}
 use Rattle.evm_rows.proofs.RowsLaws.{rows_of-none}
 use Rattle.evm_rows.proofs.RowsOrder.{Wide, rows_of-flat_of, rows_of-wide, length-flat_of}
-use Rattle.evm_rows.proofs.Bridge.{before-cmp, same-cmp, ascending_from}
+use Rattle.evm_rows.specs.Groups.{reaches, steady, targets}
+use Rattle.evm_rows.proofs.Pairs.{before_trans, earlier_of, not_true, pair_cancels, count_sorted, two_ahead, targets_push}
 use native.Mathlib.Nat.{mul-mod_left}
-use Rattle.evm_shapes.specs.Order.{targets, starts_pair, unpaired, IsReduced}
-
--- x is not above the first of the places, if there is one
-abbrev reaches : List ℤ → List (List ℤ) → Bool
-reaches x [] = true
-reaches x (y ∷ ys) = not (before y x)
-
--- no place is before the place that it follows
-pub steady : List (List ℤ) → Bool
-steady [] = true
-steady (x ∷ xs) = reaches x xs && steady xs
-
-place_order : IsTotalOrder (slice_cmp int_cmp)
-place_order = lists_total int_cmp_total
-
--- of two different places one comes first
-earlier_of : (x y : List ℤ) → before y x ≡ false → same x y ≡ false → before x y ≡ true
-earlier_of x y b s = at (slice_cmp int_cmp x y) refl
-  where
-    at : (o : Ordering) → slice_cmp int_cmp x y ≡ o → before x y ≡ true
-    at Less e = before-cmp x y ∙ ap is_lt e
-    at Equal e = absurd (true≢false (sym (ap is_eq e) ∙ sym (same-cmp x y) ∙ s))
-    at Greater e = absurd (true≢false (sym (ap is_lt (place_order.antisymm y x ∙ ap ordering_reverse e)) ∙ sym (before-cmp y x) ∙ b))
-
-not_true : (b : Bool) → not b ≡ true → b ≡ false
-not_true true e = sym e
-not_true false e = refl
-
-not_false : (b : Bool) → b ≡ false → not b ≡ true
-not_false b e = ap not e
-
--- what a sort gives
-pub steady_sorted : (bs : List (Bor (List ℤ))) → IsSorted (λ (x y : Bor (List ℤ)). slice_cmp int_cmp x.now y.now) bs → steady (targets bs) ≡ true
-unfolding steady
-steady_sorted [] h = refl
-steady_sorted (b ∷ []) h = refl
-steady_sorted (b ∷ b' ∷ bs) h =
-    and_both (not (before b'.now b.now)) (steady (targets (b' ∷ bs)))
-    (not_false (before b'.now b.now) (before-cmp b'.now b.now ∙ h 0 b (omega arith) (omega arith)))
-    (steady_sorted (b' ∷ bs) (λ k d l m. let e : suc k + 1 ≡ suc (k + 1) = omega arith in
-    ap (λ (j : ℕ). is_lt (slice_cmp int_cmp (get_or (b ∷ b' ∷ bs) j d).now (get_or (b' ∷ bs) k d).now)) (sym e) ∙ h (suc k) d (omega arith) (omega arith)))
-
-pub count_sorted : (bs cs : List (Bor (List ℤ))) (q : List ℤ) → IsPermutation bs cs → odd (count_by (λ s. same s q) (targets cs)) ≡ odd (count_by (λ s. same s q) (targets bs))
-count_sorted bs cs q h =
-    ap odd (sum_by-IsPermutation (λ (s : List ℤ). cond (same s q) 1 0) (targets bs) (targets cs) (IsPermutation-map (λ (b : Bor (List ℤ)). b.now) bs cs h))
+use Rattle.evm_shapes.specs.Order.{starts_pair, unpaired, IsReduced}
 
 -- rows that all pass, by the number of those that do not
 misses : (p : List ℤ → Bool) (S : List (List ℤ)) → list_all p S ≡ true → sum_by (λ (s : List ℤ). cond (p s) 0 1) S ≡ 0
@@ -101,12 +48,6 @@ all_sorted p bs cs h a =
     no_misses p (targets cs)
     (sum_by-IsPermutation (λ (s : List ℤ). cond (p s) 0 1) (targets bs) (targets cs) (IsPermutation-map (λ (b : Bor (List ℤ)). b.now) bs cs h) ∙ misses p (targets bs) a)
 
--- two equal places cancel
-pair_cancels : (x y q : List ℤ) (S : List (List ℤ)) → x ≡ y → xsum (λ s. same s q) (x ∷ y ∷ S) ≡ xsum (λ s. same s q) S
-pair_cancels x y q S e =
-    xsum-cons (λ s. same s q) x (y ∷ S) ∙ ap (xor (same x q)) (xsum-cons (λ s. same s q) y S ∙ ap (λ z. xor (same z q) (xsum (λ s. same s q) S)) (sym e))
-    ∙ sym (xor_assoc (same x q) (same x q) (xsum (λ s. same s q) S)) ∙ ap (λ t. xor t (xsum (λ s. same s q) S)) (xor_self (same x q)) ∙ false-xor (xsum (λ s. same s q) S)
-
 -- what cancels does not count
 sum-unpaired : (q : List ℤ) (S : List (List ℤ)) → xsum (λ s. same s q) (unpaired S) ≡ xsum (λ s. same s q) S
 unfolding unpaired
@@ -133,38 +74,13 @@ all-unpaired p (x ∷ y ∷ S) a =
     at true f g = f
     at false f g = and_both (p x) (list_all p (unpaired (y ∷ S))) (and_first (p x) (list_all p (y ∷ S)) a) g
 
-steady_rest : (x : List ℤ) (S : List (List ℤ)) → steady (x ∷ S) ≡ true → steady S ≡ true
+steady_after : (x : List ℤ) (S : List (List ℤ)) → steady (x ∷ S) ≡ true → steady S ≡ true
 unfolding steady
-steady_rest x S h = and_second (reaches x S) (steady S) h
+steady_after x S h = and_second (reaches x S) (steady S) h
 
 steady_two : (x y : List ℤ) (S : List (List ℤ)) → steady (x ∷ y ∷ S) ≡ true → before y x ≡ false
 unfolding steady
 steady_two x y S h = not_true (before y x) (and_first (not (before y x)) (steady (y ∷ S)) h)
-
-before_trans : (p q r : List ℤ) → before p q ≡ true → before q r ≡ true → before p r ≡ true
-unfolding before
-before_trans [] [] r a b = absurd (false≢true a)
-before_trans [] (y ∷ q) [] a b = absurd (false≢true b)
-before_trans [] (y ∷ q) (z ∷ r) a b = refl
-before_trans (x ∷ p) [] r a b = absurd (false≢true a)
-before_trans (x ∷ p) (y ∷ q) [] a b = absurd (false≢true b)
-before_trans (x ∷ p) (y ∷ q) (z ∷ r) a b =
-    ⊎_elim
-    (λ l. ⊎_elim
-    (λ m. first (let l' : x <ℤ y = lt_is x y l in let m' : y <ℤ z = lt_is y z m in lt_yes x z (omega (arith, int_facts))))
-    (λ m. first (let l' : x <ℤ y = lt_is x y l in let e : y ≡ z = eq_is y z (and_first (int_eq y z) (before q r) m) in lt_yes x z (omega (arith, int_facts))))
-    (or_cases (int_lt y z) (int_eq y z && before q r) b))
-    (λ l. ⊎_elim
-    (λ m. first (let m' : y <ℤ z = lt_is y z m in let e : x ≡ y = eq_is x y (and_first (int_eq x y) (before p q) l) in lt_yes x z (omega (arith, int_facts))))
-    (λ m. or_right (int_lt x z) (int_eq x z && before p r)
-    (and_both (int_eq x z) (before p r)
-    (eq_yes x z (eq_is x y (and_first (int_eq x y) (before p q) l) ∙ eq_is y z (and_first (int_eq y z) (before q r) m)))
-    (before_trans p q r (and_second (int_eq x y) (before p q) l) (and_second (int_eq y z) (before q r) m))))
-    (or_cases (int_lt y z) (int_eq y z && before q r) b))
-    (or_cases (int_lt x y) (int_eq x y && before p q) a)
-  where
-    first : int_lt x z ≡ true → (int_lt x z || (int_eq x z && before p r)) ≡ true
-    first h = or_left (int_lt x z) (int_eq x z && before p r) h
 
 before_steady : (x y z : List ℤ) → before x y ≡ true → before z y ≡ false → before x z ≡ true
 before_steady x y z l b = at (same y z) refl
@@ -176,7 +92,7 @@ before_steady x y z l b = at (same y z) refl
 below_all : (x y : List ℤ) (ys : List (List ℤ)) → before x y ≡ true → steady (y ∷ ys) ≡ true → list_all (before x) (y ∷ ys) ≡ true
 below_all x y [] l h = and_both (before x y) true l refl
 below_all x y (z ∷ ys) l h =
-    and_both (before x y) (list_all (before x) (z ∷ ys)) l (below_all x z ys (before_steady x y z l (steady_two y z ys h)) (steady_rest y (z ∷ ys) h))
+    and_both (before x y) (list_all (before x) (z ∷ ys)) l (below_all x z ys (before_steady x y z l (steady_two y z ys h)) (steady_after y (z ∷ ys) h))
 
 -- what is left of rows in order ascends
 ascending-unpaired : (S : List (List ℤ)) → steady S ≡ true → ascending (unpaired S) ≡ true
@@ -184,19 +100,16 @@ unfolding unpaired ascending
 ascending-unpaired [] h = refl
 ascending-unpaired (x ∷ []) h = refl
 ascending-unpaired (x ∷ y ∷ S) h =
-    let rest : steady (y ∷ S) ≡ true = steady_rest x (y ∷ S) h in
-    at (same x y) refl (ascending-unpaired S (steady_rest y S rest)) (ascending-unpaired (y ∷ S) rest)
+    let rest : steady (y ∷ S) ≡ true = steady_after x (y ∷ S) h in
+    at (same x y) refl (ascending-unpaired S (steady_after y S rest)) (ascending-unpaired (y ∷ S) rest)
   where
     at : (b : Bool) → same x y ≡ b → ascending (unpaired S) ≡ true → ascending (unpaired (y ∷ S)) ≡ true → ascending (cond b (unpaired S) (x ∷ unpaired (y ∷ S))) ≡ true
     at true e f g = f
     at false e f g =
         and_both (list_all (before x) (unpaired (y ∷ S))) (ascending (unpaired (y ∷ S)))
-        (all-unpaired (before x) (y ∷ S) (below_all x y S (earlier_of x y (steady_two x y S h) e) (steady_rest x (y ∷ S) h))) g
+        (all-unpaired (before x) (y ∷ S) (below_all x y S (earlier_of x y (steady_two x y S h) e) (steady_after x (y ∷ S) h))) g
 
 -- ---- what the functions take from all this
-
-pub targets_push : (bs cs : List (Bor (List ℤ))) (b : Bor (List ℤ)) → cs ≡ bs ++ b ∷ [] → targets cs ≡ targets bs ++ b.now ∷ []
-targets_push bs cs b e = ap targets e ∙ map-append (λ (x : Bor (List ℤ)). x.now) bs (b ∷ [])
 
 -- one more row is gathered
 pub gathered_more : (bs cs : List (Bor (List ℤ))) (b : Bor (List ℤ)) (R rest all : List (List ℤ)) → cs ≡ bs ++ b ∷ [] → R ≡ b.now ∷ rest → targets bs ++ R ≡ all → targets cs ++ rest ≡ all
@@ -205,18 +118,6 @@ gathered_more bs cs b R rest all e r h =
 
 pub gathered_all : (bs : List (Bor (List ℤ))) (R all : List (List ℤ)) → R ≡ [] → targets bs ++ R ≡ all → targets bs ≡ all
 gathered_all bs R all e h = sym (append-nil (targets bs)) ∙ ap (λ z. targets bs ++ z) (sym e) ∙ h
-
-pub two_ahead : {X : Type 0} (xs : List X) (i : ℕ) (d : X) → i + 1 < length xs → drop i xs ≡ get_or xs i d ∷ get_or xs (i + 1) d ∷ drop (i + 2) xs
-two_ahead xs i d l =
-    let e : i + 1 + 1 ≡ i + 2 = omega arith in
-    drop_more xs i d (omega arith) ∙ ap (λ ys. get_or xs i d ∷ ys) (drop_more xs (i + 1) d l ∙ ap (λ (j : ℕ). get_or xs (i + 1) d ∷ drop j xs) e)
-
-pub pointwise-same : (p q : List ℤ) → pointwise int_eq p q ≡ same p q
-unfolding same each
-pointwise-same [] [] = refl
-pointwise-same [] (y ∷ q) = refl
-pointwise-same (x ∷ p) [] = refl
-pointwise-same (x ∷ p) (y ∷ q) = ap (λ t. int_eq x y && t) (pointwise-same p q)
 
 -- whether a pair starts at i
 pub starts_pair-at : (bs : List (Bor (List ℤ))) (i : ℕ) (d : Bor (List ℤ)) → i + 1 < length bs → starts_pair (targets (drop i bs)) ≡ same (get_or bs i d).now (get_or bs (i + 1) d).now

@@ -1,13 +1,8 @@
 -- Rows in any order, and those of them that are left where equal rows cancel in pairs.
-use Rattle.std.specs.Prelude.{◌≡◌, ℕ, Bool, true, false, ◌==◌, ℤ, List, [], ◌∷◌, length, map, count_by, if◌then◌else◌}
+use Rattle.std.specs.Prelude.{◌≡◌, ℕ, Bool, true, false, ◌==◌, ℤ, List, [], ◌∷◌, length, count_by, if◌then◌else◌}
 use Rattle.std.specs.List.{list_all}
 use Rattle.evm_cells.specs.Places.{same, ascending, has}
 use Rattle.evm_cells.specs.Vertices.{odd}
-use denote.Ref.{Bor}
-
--- what the references in a list point to
-abbrev pub targets : List (Bor (List ℤ)) → List (List ℤ)
-targets bs = map (λ b. b.now) bs
 
 -- the first two rows are there, and equal
 abbrev pub starts_pair : List (List ℤ) → Bool

@@ -1,7 +1,8 @@
 // Rows in any order, put in order.
 ghost use Rattle.std.specs.Prelude.{◌≡◌, ◌%◌, ◌<◌, ◌≤◌, ◌++◌, length, drop, IfOk, OnOk};
 ghost use Rattle.evm_rows.specs.Rows.{rows_of, flat_of};
-ghost use Rattle.evm_shapes.specs.Order.{targets, starts_pair, unpaired, IsReduced};
+ghost use Rattle.evm_rows.specs.Groups.{targets};
+ghost use Rattle.evm_shapes.specs.Order.{starts_pair, unpaired, IsReduced};
 
 use evm_rows::split_row;
 use std::alloc::{AllocError, Global};

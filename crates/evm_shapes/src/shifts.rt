@@ -9,7 +9,7 @@ ghost use Rattle.evm_rows.specs.View.{vertices_of};
 ghost use Rattle.evm_shapes.specs.declared.shifts.ShapeError.{ShapeError};
 ghost use Rattle.evm_shapes.specs.declared.shifts.ShapeError.TheVariants.{NoMemory};
 
-use evm_rows::{Rows, Solid, split_row};
+use evm_rows::{Rows, Solid, limit, split_row};
 use std::alloc::{AllocError, AllocFailed, Global};
 
 /// Why there is no shifted solid.
@@ -39,14 +39,17 @@ impl<T: Drop> From<AllocFailed<T>> for ShapeError {
 
 // The limit of coordinates.
 fn limit_of(dim: usize) -> i64
+    requires low { 0 < dim }
+    requires high { dim ≤ 6 }
     ensures { result ≡ pos (limit dim) }
 {
-    let _ = dim;
-    524_288
+    i64::from(limit(dim))
 }
 
 // Whether the number is a vertex coordinate of dimension `dim`.
 fn is_within(x: i64, dim: usize) -> bool
+    requires low { 0 < dim }
+    requires high { dim ≤ 6 }
     ensures { result ≡ is_point_coord dim x }
 {
     let limit = limit_of(dim);
@@ -64,6 +67,7 @@ fn sum(x: i32, by: i64) -> i64
 
 // Whether the moved row is a point.
 fn row_fits(row: &[i32], by: &[i64]) -> bool
+    requires few { length row.now ≤ 6 }
     requires shift { is_shift (length row.now) by.now ≡ true }
     ensures { result ≡ is_point (length row.now) (added by.now row.now) }
 {

@@ -1,6 +1,7 @@
 use Rattle.std.proofs.Common.{◌≡◌, ◌≤◌, ◌-◌, ◌++◌, length, drop}
 use Rattle.evm_rows.specs.Rows.{flat_of}
-use Rattle.evm_shapes.specs.Order.{targets, unpaired}
+use Rattle.evm_rows.specs.Groups.{targets}
+use Rattle.evm_shapes.specs.Order.{unpaired}
 use Rattle.evm_shapes.proofs.order.append_unpaired.Given as goal
 
 abbrev pub invariant-loop-i : goal.invariant-loop-i

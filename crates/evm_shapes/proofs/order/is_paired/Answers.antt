@@ -1,6 +1,7 @@
 use Rattle.std.proofs.Common.{◌∙◌, ◌≡◌, ◌<◌, ◌≤◌, ◌+◌, length, sym, get_or, []}
 use Rattle.std.proofs.lemmas.Bool.{le-ltb}
-use Rattle.evm_shapes.proofs.Sorted.{starts_pair-at, starts_pair-last, pointwise-same}
+use Rattle.evm_rows.proofs.Solids.{pointwise-same}
+use Rattle.evm_shapes.proofs.Sorted.{starts_pair-at, starts_pair-last}
 use Rattle.evm_shapes.proofs.order.is_paired.Goals as goal
 
 pub returns-then-i-rows : goal.returns-then-i-rows

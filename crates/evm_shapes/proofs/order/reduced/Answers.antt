@@ -1,8 +1,10 @@
 use Rattle.std.proofs.Common.{◌≡◌, ◌%◌, ◌++◌, ℕ, ℤ, List, length, ap, ap₂, ◌∙◌}
 use Rattle.evm_rows.specs.Rows.{rows_of, flat_of}
 use Rattle.evm_rows.proofs.RowsOrder.{rows_of-wide}
-use Rattle.evm_shapes.specs.Order.{targets, unpaired, IsReduced}
-use Rattle.evm_shapes.proofs.Sorted.{steady_sorted, reduced_is}
+use Rattle.evm_rows.specs.Groups.{targets}
+use Rattle.evm_shapes.specs.Order.{unpaired, IsReduced}
+use Rattle.evm_rows.proofs.Pairs.{steady_sorted}
+use Rattle.evm_shapes.proofs.Sorted.{reduced_is}
 use Rattle.evm_shapes.proofs.order.reduced.Goals as goal
 
 pub returns-clause-whole : goal.returns-clause-whole

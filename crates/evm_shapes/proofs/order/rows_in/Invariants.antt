@@ -1,6 +1,6 @@
 use Rattle.std.proofs.Common.{◌≡◌, ◌%◌, ◌++◌, length}
 use Rattle.evm_rows.specs.Rows.{rows_of}
-use Rattle.evm_shapes.specs.Order.{targets}
+use Rattle.evm_rows.specs.Groups.{targets}
 use Rattle.evm_shapes.proofs.order.rows_in.Given as goal
 
 abbrev pub invariant-loop-left : goal.invariant-loop-left
