@@ -1,23 +1,26 @@
 -- Unions of sections, and the projection.
-use Rattle.std.proofs.Common.{◌≡◌, ℕ, zero, suc, ◌+◌, ◌-◌, ◌<◌, ◌≤◌, Bool, true, false, cond, ◌&&◌, ◌||◌, List, [], ◌∷◌, ◌++◌, length, take, drop, map, filter, ℤ, pos, ◌-ℤ◌, ◌<ℤ◌, ◌≤ℤ◌, int_lt, int_eq, refl, sym, ap, ap₂, ◌∙◌, subst, arith, ⊎_elim}
+use Rattle.std.proofs.Common.{◌≡◌, ℕ, zero, suc, ◌+◌, ◌-◌, ◌*◌, ◌%◌, ◌<◌, ◌≤◌, Bool, true, false, cond, ◌&&◌, ◌||◌, List, [], ◌∷◌, ◌++◌, length, take, drop, map, filter, ℤ, pos, ◌-ℤ◌, ◌<ℤ◌, ◌≤ℤ◌, int_le, int_lt, int_eq, refl, sym, ap, ap₂, ◌∙◌, subst, arith, ⊎_elim, zero-add}
+use Rattle.std.specs.Prelude.{Option, Some, None, IfSome, IfNone, is_some}
 use Rattle.std.specs.List.{list_any, list_all}
 use Rattle.std.proofs.lemmas.Bool.{true≢false, false≢true, or_cases, or_left, or_right, cases_Bool}
 use Rattle.std.proofs.lemmas.Int.{ints as int_facts, by_lt_z}
-use Rattle.evm_cells.specs.Places.{has, with_at}
+use Rattle.std.proofs.lemmas.List.{map-append, take_all}
+use Rattle.evm_cells.specs.Places.{each, has, with_at}
 use Rattle.evm_cells.specs.Limits.{every_cell, cell_coords, is_cell, is_cell_coord, IsCellSet}
 use Rattle.evm_cells.specs.Booleans.{combine, or_cells}
 use Rattle.evm_cells.specs.Vertices.{evm, cells, IsVertexList}
 use Rattle.evm_cells.specs.Sections.{slice}
 use Rattle.evm_cells.specs.Shapes.{proj, front}
-use Rattle.evm_cells.proofs.Xor.{and_first, and_second, and_both}
+use Rattle.evm_cells.proofs.Xor.{xsum-nil, and-false, and_first, and_second, and_both}
 use Rattle.evm_cells.proofs.Order.{same_tests}
 use Rattle.evm_cells.proofs.Lists.{any-append, any_same}
 use Rattle.evm_cells.proofs.Coords.{lt_is, lt_yes, eq_is, eq_yes, any-cell_coords, cell_is}
 use Rattle.evm_cells.proofs.Places.{has-any}
-use Rattle.evm_cells.proofs.Universe.{has-cells, cell_set-cells, cells_are, same_sets, member_passes}
+use Rattle.evm_cells.proofs.Universe.{has-cells, has-cells_of, cell_set-cells, cells_are, same_sets, member_passes}
 use Rattle.evm_cells.proofs.Combine.{cell_set-filter, cell_set-combine, has-combine}
-use Rattle.evm_cells.proofs.Core.{cells-evm, evm-cells}
+use Rattle.evm_cells.proofs.Core.{cells-evm, evm-cells, vertices-evm}
 use Rattle.evm_cells.proofs.Slices.{has-slice_of, cell_set-slice, cell_of_with_at}
+use Rattle.evm_cells.proofs.Layers.{evm-empty}
 use Rattle.evm_cells.proofs.Lifts.{proj_of_sections, proj_of_front, cell_set-front, cell_set-proj}
 use Rattle.evm_rows.specs.Rows.{Vertices, xor_rows, rows_of}
 use Rattle.evm_rows.proofs.RowsPlaces.{length-rows_of}
@@ -98,7 +101,7 @@ not_empty : (n : ℕ) (S : List (List ℤ)) (s : List (List ℤ)) (c : List ℤ)
 not_empty n S s c h e = ap (λ V. has (cells n V) c) e ∙ ap (λ T. has T c) (cells-evm n S h)
 
 no_member : (n : ℕ) (c : List ℤ) → has (cells n []) c ≡ true → ⊥
-no_member n c m = ?
+no_member n c m = true≢false (sym m ∙ has-cells_of n [] c ∙ ap (λ t. is_cell n c && t) (xsum-nil (λ q. each int_le q c)) ∙ and-false (is_cell n c))
 
 -- the section at a height is that of some slab
 slab_at : (n : ℕ) (S : List (List ℤ)) (l k : ℤ) (s : List (List ℤ)) (cs : List (ℤ × List (List ℤ))) (c : List ℤ) → Above n S l s cs → l ≤ℤ k → has (slice n 0 k S) c ≡ true
@@ -210,3 +213,79 @@ pub slabs_in-length : (m n : ℕ) (W : List (List ℤ)) → n + 1 ≡ m → IsVe
 slabs_in-length m n W e w =
     let q : m ≡ suc n = omega arith in
     ap (λ (j : ℕ). length (slabs_in n (cells j W))) q ∙ ap length (sym (slabs_are n W (subst (λ (j : ℕ). IsVertexList j W) q w))) ∙ slabs-length n (couplets_of W)
+
+-- ---- the steps of the functions
+
+-- what was given is the first of what was left
+pub popped : {X : Type 0} (o : Option X) (f : X → ℤ × List (List ℤ)) (old new : List (ℤ × List (List ℤ))) → IfSome o (λ p. old ≡ f p ∷ new) → true ≡ is_some o → length old ≡ suc (length new)
+popped None f old new e t = absurd (true≢false t)
+popped (Some p) f old new e t = ap length e
+
+pub given_none : {X : Type 0} (o : Option X) (old : List (ℤ × List (List ℤ))) → IfNone o (old ≡ []) → false ≡ is_some o → old ≡ []
+given_none None old e t = e
+given_none (Some p) old e t = absurd (false≢true t)
+
+-- the first of the slabs that are left, where some are
+pub advanced : {X : Type 0} (o : Option X) (f : X → ℤ × (ℤ × List (List ℤ))) (left new : List (ℤ × (ℤ × List (List ℤ)))) (n : ℕ) (section W V : List (List ℤ)) → ((x : X) → (f x).1.1 ≡ section) → IfSome o (λ x. left ≡ f x ∷ new) → IfNone o ((left ≡ []) × ((new ≡ []) × (section ≡ []))) → 1 ≤ length left → W ≡ V → V ≡ section → IsVertexList n V → W ≡ united n (sections_of (take 1 left))
+advanced None f left new n section W V r a b l d g v = absurd (let e : length left ≡ 0 = ap length b.0 in omega arith)
+advanced (Some x) f left new n section W V r a b l d g v =
+    d ∙ united-one n V v ∙ ap (λ T. united n (T ∷ [])) (g ∙ sym (r x)) ∙ ap (λ L. united n (sections_of (take 1 L))) (sym a)
+
+pub rows-few : (flat : List ℤ) (w s : ℕ) → s < w → length flat % w ≡ 0 → length (rows_of flat w s) ≤ length flat
+rows-few flat w s l e =
+    let m = length-rows_of flat w s (omega arith) e in
+    let k : length (rows_of flat w s) ≤ length (rows_of flat w s) * w = grind arith in
+    omega arith
+
+pub take-add : {X : Type 0} (a b : ℕ) (xs : List X) → take (a + b) xs ≡ take a xs ++ take b (drop a xs)
+take-add zero b xs = ap (λ (k : ℕ). take k xs) (zero-add b)
+take-add (suc a) b [] = none_taken (suc a + b) ∙ sym (none_taken b)
+  where
+    none_taken : {X : Type 0} (k : ℕ) → take {A = X} k [] ≡ []
+    none_taken zero = refl
+    none_taken (suc k) = refl
+take-add (suc a) b (x ∷ xs) = ap (λ (k : ℕ). take k (x ∷ xs)) (let e : suc a + b ≡ suc (a + b) = omega arith in e) ∙ ap (λ ys. x ∷ ys) (take-add a b xs)
+
+-- the union of the two halves
+pub two_halves : (n a b k : ℕ) (left rest : List (ℤ × (ℤ × List (List ℤ)))) (U V W : List (List ℤ)) → a + b ≡ k → rest ≡ drop a left → U ≡ united n (sections_of (take a left)) → V ≡ united n (sections_of (take b rest)) → W ≡ evm n (or_cells n (cells n U) (cells n V)) → W ≡ united n (sections_of (take k left))
+two_halves n a b k left rest U V W e r u v w =
+    w ∙ ap₂ (λ A B. evm n (or_cells n (cells n A) (cells n B))) u (v ∙ ap (λ L. united n (sections_of (take b L))) r)
+    ∙ united-append n (sections_of (take a left)) (sections_of (take b (drop a left)))
+    ∙ ap (united n) (sym (map-append (λ (s : ℤ × (ℤ × List (List ℤ))). s.1.1) (take a left) (take b (drop a left))))
+    ∙ ap (λ L. united n (sections_of L)) (sym (take-add a b left))
+    ∙ ap (λ (j : ℕ). united n (sections_of (take j left))) e
+
+-- the slabs are all
+pub all_slabs : (n k : ℕ) (left : List (ℤ × (ℤ × List (List ℤ)))) (W : List (List ℤ)) → length left ≡ k → W ≡ united n (sections_of (take k left)) → W ≡ united n (sections_of left)
+all_slabs n k left W e w = w ∙ ap (λ L. united n (sections_of L)) (ap (λ (j : ℕ). take j left) (sym e) ∙ take_all (length left) left (omega arith))
+
+-- where there are not two couplets, the projection is empty
+pub no_slabs : (n : ℕ) (left : List (ℤ × (ℤ × List (List ℤ)))) → length left ≡ 0 → [] ≡ united n (sections_of left)
+unfolding united
+no_slabs n [] e = sym (ap (evm n) (filter_none (every_cell n)) ∙ evm-empty n)
+  where
+    filter_none : (xs : List (List ℤ)) → filter (λ c. false) xs ≡ []
+    filter_none [] = refl
+    filter_none (x ∷ xs) = filter_none xs
+no_slabs n (x ∷ left) e = absurd (omega arith)
+
+-- ---- the projection of a solid whose axis was put first
+
+turned_vertices : (m i : ℕ) (V W : List (List ℤ)) → W ≡ evm m (front m i (cells m V)) → IsVertexList m W
+turned_vertices m i V W h = subst (λ (X : List (List ℤ)). IsVertexList m X) (sym h) (vertices-evm m (front m i (cells m V)) (cell_set-front m i (cells m V)))
+
+pub slabs_of : (m n d k i : ℕ) (V W : List (List ℤ)) (left : List (ℤ × (ℤ × List (List ℤ)))) → n + 1 ≡ m → W ≡ evm m (front m i (cells m V)) → d ≡ n → k ≡ length (couplets_of W) → left ≡ slabs_in d (cells m W) → length left ≡ k - 1
+slabs_of m n d k i V W left e h f g s =
+    ap length s ∙ ap (λ (j : ℕ). length (slabs_in j (cells m W))) f ∙ slabs_in-length m n W e (turned_vertices m i V W h) ∙ ap (λ (j : ℕ). j - 1) (sym g)
+
+pub shadow_is : (m n d k i : ℕ) (V W shadow : List (List ℤ)) (left : List (ℤ × (ℤ × List (List ℤ)))) → n + 1 ≡ m → i < m → IsVertexList m V → W ≡ evm m (front m i (cells m V)) → d ≡ n → k ≡ length (couplets_of W) → left ≡ slabs_in d (cells m W)
+    → shadow ≡ united d (sections_of (take (k - 1) left)) → shadow ≡ evm n (proj n i (cells m V))
+shadow_is m n d k i V W shadow left e l v h f g s u =
+    all_slabs d (k - 1) left shadow (slabs_of m n d k i V W left e h f g s) u
+    ∙ ap (λ L. united d (sections_of L)) s ∙ ap (λ (j : ℕ). united j (sections_of (slabs_in j (cells m W)))) f
+    ∙ projection_of m n i V W e l v (turned_vertices m i V W h) h
+
+pub no_shadow : (m n k i : ℕ) (V W : List (List ℤ)) → n + 1 ≡ m → i < m → IsVertexList m V → W ≡ evm m (front m i (cells m V)) → k ≡ length (couplets_of W) → k < 2 → [] ≡ evm n (proj n i (cells m V))
+no_shadow m n k i V W e l v h g few =
+    no_slabs n (slabs_in n (cells m W)) (slabs_of m n n k i V W (slabs_in n (cells m W)) e h refl g refl ∙ (let z : k - 1 ≡ 0 = omega arith in z))
+    ∙ projection_of m n i V W e l v (turned_vertices m i V W h) h
