@@ -5,7 +5,7 @@ ghost use Rattle.evm_cells.specs.Shapes.{clip};
 ghost use Rattle.evm_cells.specs.Vertices.{evm, cells};
 ghost use Rattle.evm_rows.specs.View.{vertices_of};
 
-use evm_boolean::combine::and;
+use evm_boolean::and;
 use evm_rows::{NoMemory, Rows, Solid};
 use std::alloc::Global;
 

@@ -16,3 +16,6 @@ pub use projections::project;
 pub use shifts::{ShapeError, shift};
 pub use slices::slice;
 pub use turns::{mirror, swap};
+
+#[cfg(test)]
+mod tests;

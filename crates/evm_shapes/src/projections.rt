@@ -7,7 +7,7 @@ ghost use Rattle.evm_sections.specs.Couplets.{couplets_of};
 ghost use Rattle.evm_shapes.specs.Unions.{united, sections_of};
 
 use crate::turns::fronted;
-use evm_boolean::combine::or;
+use evm_boolean::or;
 use evm_rows::{NoMemory, Rows, Solid, own};
 use evm_sections::{Sweep, Walk};
 use std::alloc::Global;

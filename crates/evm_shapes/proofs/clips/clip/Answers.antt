@@ -33,7 +33,7 @@ and-requires c =
     sym d
 
 pub returns-clause-dim : goal.returns-clause-dim
-returns-clause-dim c = and_dim (vertices_of c.args.a) (vertices_of c.rows.result) c.in_ok-solid.solid c.in_ok-solid.ensures
+returns-clause-dim c = and_dim (vertices_of c.args.a) (vertices_of c.rows.result) c.in_ok-solid.solid c.in_ok-solid.ensures.vertices
 
 pub returns-clause-rows : goal.returns-clause-rows
 returns-clause-rows c =
@@ -45,7 +45,7 @@ returns-clause-rows c =
     let l = box_lengths n lo hi c.requires in
     let b : (vertices_of c.rows.result).rows ≡ evm (length lo) (box_cells (length lo) lo hi) = ap (λ (p : Vertices). p.rows) c.rows.ensures ∙ c.in-Ok.ensures.rows in
     let e : c.in_ok-solid.solid.rows ≡ evm n (clip n lo hi (cells n V)) =
-    clipped n (length lo) lo hi V (vertices_of c.rows.result).rows c.in_ok-solid.solid.rows l.0 b (and_rows (vertices_of a) (vertices_of c.rows.result) c.in_ok-solid.solid c.in_ok-solid.ensures) in
+    clipped n (length lo) lo hi V (vertices_of c.rows.result).rows c.in_ok-solid.solid.rows l.0 b (and_rows (vertices_of a) (vertices_of c.rows.result) c.in_ok-solid.solid c.in_ok-solid.ensures.vertices) in
     e
 
 pub returns-clause-cells : goal.returns-clause-cells
@@ -58,5 +58,5 @@ returns-clause-cells c =
     let l = box_lengths n lo hi c.requires in
     let b : (vertices_of c.rows.result).rows ≡ evm (length lo) (box_cells (length lo) lo hi) = ap (λ (p : Vertices). p.rows) c.rows.ensures ∙ c.in-Ok.ensures.rows in
     let e : c.in_ok-solid.solid.rows ≡ evm n (clip n lo hi (cells n V)) =
-    clipped n (length lo) lo hi V (vertices_of c.rows.result).rows c.in_ok-solid.solid.rows l.0 b (and_rows (vertices_of a) (vertices_of c.rows.result) c.in_ok-solid.solid c.in_ok-solid.ensures) in
-    cells_of c.in_ok-solid.solid.dim n c.in_ok-solid.solid.rows (clip n lo hi (cells n V)) (and_dim (vertices_of a) (vertices_of c.rows.result) c.in_ok-solid.solid c.in_ok-solid.ensures) (cell_set-clip n lo hi (cells n V)) e
+    clipped n (length lo) lo hi V (vertices_of c.rows.result).rows c.in_ok-solid.solid.rows l.0 b (and_rows (vertices_of a) (vertices_of c.rows.result) c.in_ok-solid.solid c.in_ok-solid.ensures.vertices) in
+    cells_of c.in_ok-solid.solid.dim n c.in_ok-solid.solid.rows (clip n lo hi (cells n V)) (and_dim (vertices_of a) (vertices_of c.rows.result) c.in_ok-solid.solid c.in_ok-solid.ensures.vertices) (cell_set-clip n lo hi (cells n V)) e

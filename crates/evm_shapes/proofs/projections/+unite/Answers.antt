@@ -21,7 +21,7 @@ returns-then-count-eq1-clause-rows t c =
 
 pub returns-clause-dim : goal.returns-clause-dim
 returns-clause-dim t c =
-    or_dim (vertices_of c.rows.result) (vertices_of c.rows-2.result) c.in_ok-all.all c.in_ok-all.ensures ∙ ap (λ (p : Vertices). p.dim) c.rows.ensures ∙ c.in_ok-low.ensures.dim
+    or_dim (vertices_of c.rows.result) (vertices_of c.rows-2.result) c.in_ok-all.all c.in_ok-all.ensures.vertices ∙ ap (λ (p : Vertices). p.dim) c.rows.ensures ∙ c.in_ok-low.ensures.dim
 
 pub returns-clause-rows : goal.returns-clause-rows
 returns-clause-rows t c =
@@ -32,7 +32,7 @@ returns-clause-rows t c =
     let low : (vertices_of c.rows.result).rows ≡ c.in_ok-low.low.rows = ap (λ (p : Vertices). p.rows) c.rows.ensures in
     let high : (vertices_of c.rows-2.result).rows ≡ c.in_ok-high.high.rows = ap (λ (p : Vertices). p.rows) c.rows-2.ensures in
     let w : c.in_ok-all.all.rows ≡ evm n (or_cells n (cells n c.in_ok-low.low.rows) (cells n c.in_ok-high.high.rows)) =
-    or_rows (vertices_of c.rows.result) (vertices_of c.rows-2.result) c.in_ok-all.all c.in_ok-all.ensures
+    or_rows (vertices_of c.rows.result) (vertices_of c.rows-2.result) c.in_ok-all.all c.in_ok-all.ensures.vertices
     ∙ ap (λ (k : ℕ). evm k (or_cells k (cells k (vertices_of c.rows.result).rows) (cells k (vertices_of c.rows-2.result).rows))) d
     ∙ ap₂ (λ X Y. evm n (or_cells n (cells n X) (cells n Y))) low high in
     let v : c.in_ok-high.high.rows ≡ united n (sections_of (take (c.args.count - half) c.unite.new.sweep.left)) =
