@@ -143,7 +143,7 @@ all_and p q (x ∷ xs) h k =
     (and_both (p x) (q x) (and_first (p x) (list_all p xs) h) (and_first (q x) (list_all q xs) k))
     (all_and p q xs (and_second (p x) (list_all p xs) h) (and_second (q x) (list_all q xs) k))
 
-filter_all : {X : Type 0} (t : X → Bool) (xs : List X) → list_all t (filter t xs) ≡ true
+pub filter_all : {X : Type 0} (t : X → Bool) (xs : List X) → list_all t (filter t xs) ≡ true
 filter_all t [] = refl
 filter_all t (x ∷ xs) = at_test (t x) refl (filter_all t xs)
   where

@@ -7,3 +7,5 @@ pub mod Sections
 pub mod Measures
 pub mod Laws
 pub mod Examples
+pub mod Shapes
+pub mod ShapeLaws

@@ -116,6 +116,8 @@ pub fn xor_into(old: Solid, a: Rows<'_>, b: Rows<'_>) -> Result<Solid, NoMemory>
     let dim = a.dim();
     let mut out = old.into_flat();
     out.clear();
+    let room = a.flat.len().saturating_add(b.flat.len());
+    out.reserve(room)?;
     let flat = merged(out, a, b)?;
     Ok(Solid::from_rows(dim, flat))
 }

@@ -1,0 +1,23 @@
+-- Rows in any order, and those of them that are left where equal rows cancel in pairs.
+use Rattle.std.specs.Prelude.{◌≡◌, ℕ, Bool, true, false, ◌==◌, ℤ, List, [], ◌∷◌, length, count_by, if◌then◌else◌}
+use Rattle.std.specs.List.{list_all}
+use Rattle.evm_cells.specs.Places.{same, ascending, has}
+use Rattle.evm_cells.specs.Vertices.{odd}
+
+-- the first two rows are there, and equal
+abbrev pub starts_pair : List (List ℤ) → Bool
+starts_pair [] = false
+starts_pair (x ∷ []) = false
+starts_pair (x ∷ y ∷ r) = same x y
+
+-- the rows without each pair of equal neighbours
+unfoldable pub unpaired : List (List ℤ) → List (List ℤ)
+unpaired [] = []
+unpaired (x ∷ []) = x ∷ []
+unpaired (x ∷ y ∷ r) = if same x y then unpaired r else x ∷ unpaired (y ∷ r)
+
+-- W has, ascending, the rows that occur an odd number of times in L; each has n numbers
+pub record IsReduced (n : ℕ) (L W : List (List ℤ)) : Type 0 where
+  pub ascends : ascending W ≡ true
+  pub wide : list_all (λ p. length p == n) W ≡ true
+  pub odd_times : (p : List ℤ) → has W p ≡ odd (count_by (λ q. same q p) L)

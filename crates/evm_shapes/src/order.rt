@@ -1,0 +1,65 @@
+// Rows in any order, put in order.
+ghost use Rattle.std.specs.Prelude.{◌≡◌, ◌%◌, ◌<◌, ◌≤◌, ◌++◌, length, drop, IfOk, OnOk};
+ghost use Rattle.evm_rows.specs.Rows.{rows_of, flat_of};
+ghost use Rattle.evm_rows.specs.Groups.{targets};
+ghost use Rattle.evm_shapes.specs.Order.{starts_pair, unpaired, IsReduced};
+
+use evm_rows::split_row;
+use std::alloc::{AllocError, Global};
+
+// The rows of `flat`, each of `width` numbers, borrowed.
+fn rows_in(alloc: Global, flat: &[i32], width: usize) -> Result<Vec<&[i32]>, AllocError>
+    requires some { 0 < width }
+    requires narrow { width ≤ 6 }
+    requires whole { length flat.now % width ≡ 0 }
+    ensures { IfOk result (λ v. targets v.items ≡ rows_of flat.now width 0) }
+{
+    let mut rows = Vec::with_capacity(alloc, flat.len() / width)?;
+    let mut left = flat;
+    while left.len() != 0 {
+        let (row, rest) = split_row(left, width, 0);
+        rows.push(row)?;
+        left = rest;
+    }
+    Ok(rows)
+}
+
+// Whether the row at `i` and the next are equal.
+fn is_paired(rows: &[&[i32]], i: usize) -> bool
+    requires { i < length rows.now }
+    ensures { result ≡ starts_pair (targets (drop i rows.now)) }
+{
+    i + 1 < rows.len() && rows[i] == rows[i + 1]
+}
+
+// Appends the rows without each pair of equal neighbours.
+fn append_unpaired(out: &mut Vec<i32>, rows: &[&[i32]]) -> Result<(), AllocError>
+    ensures { OnOk result (out.new.items ≡ out.old.items ++ flat_of (unpaired (targets rows.now))) }
+{
+    let mut i = 0;
+    while i < rows.len() {
+        if is_paired(rows, i) {
+            i += 2;
+        } else {
+            out.extend_from_slice(rows[i])?;
+            i += 1;
+        }
+    }
+    Ok(())
+}
+
+// The rows of `flat` that occur an odd number of times, ascending. Takes memory for a reference a row, as much again to
+// sort them, and for the answer.
+pub(crate) fn reduced(alloc: Global, flat: &[i32], width: usize) -> Result<Vec<i32>, AllocError>
+    requires some { 0 < width }
+    requires narrow { width ≤ 6 }
+    requires whole { length flat.now % width ≡ 0 }
+    ensures whole { IfOk result (λ v. length v.items % width ≡ 0) }
+    ensures rows { IfOk result (λ v. IsReduced width (rows_of flat.now width 0) (rows_of v.items width 0)) }
+{
+    let mut rows = rows_in(alloc, flat, width)?;
+    rows.sort()?;
+    let mut out = Vec::with_capacity(alloc, flat.len())?;
+    append_unpaired(&mut out, rows.as_slice())?;
+    Ok(out)
+}

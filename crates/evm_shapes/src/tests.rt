@@ -1,0 +1,102 @@
+ghost use Rattle.std.specs.Prelude.{◌≡◌, IfOk};
+
+use crate::{ShapeError, clip, lift, mirror, project, shift, slice, swap};
+use evm_boolean::or;
+use evm_rows::{NoMemory, Solid};
+use std::alloc::Global;
+
+// Whether the solid has these rows.
+fn has_rows(solid: &Solid, dim: usize, numbers: &[i32]) -> bool {
+    solid.dim() == dim && solid.rows().flat == numbers
+}
+
+// The box of two cells in a row.
+fn two_cells(alloc: Global) -> Result<Solid, NoMemory>
+    ensures { IfOk result (λ s. s.dim ≡ 2) }
+{
+    match Solid::of_box(alloc, &[0, 0], &[2, 1]) {
+        Ok(solid) => Ok(solid),
+        Err(_) => Err(NoMemory),
+    }
+}
+
+// A mirror image and an exchange of axes.
+fn turned(alloc: Global) -> Result<(bool, bool), NoMemory> {
+    let a = two_cells(alloc)?;
+    let left = mirror(alloc, a.rows(), 1)?;
+    let tall = swap(alloc, a.rows(), 1, 2)?;
+    Ok((
+        has_rows(&left, 2, &[-2, 0, -2, 1, 0, 0, 0, 1]),
+        has_rows(&tall, 2, &[0, 0, 0, 2, 1, 0, 1, 2]),
+    ))
+}
+
+// What is inside a box.
+fn clipped(alloc: Global) -> Result<bool, NoMemory> {
+    let a = two_cells(alloc)?;
+    let right = clip(alloc, a.rows(), &[1, 0], &[5, 5])?;
+    Ok(has_rows(&right, 2, &[1, 0, 1, 1, 2, 0, 2, 1]))
+}
+
+// A prism, a section of it and its projection.
+fn raised(alloc: Global) -> Result<(bool, bool, bool), NoMemory> {
+    let a = two_cells(alloc)?;
+    let prism = lift(alloc, a.rows(), 3, 4, 6)?;
+    let middle = slice(alloc, prism.rows(), 3, 5)?;
+    let shadow = project(alloc, prism.rows(), 3)?;
+    Ok((
+        has_rows(
+            &prism,
+            3,
+            &[
+                0, 0, 4, 0, 0, 6, 0, 1, 4, 0, 1, 6, 2, 0, 4, 2, 0, 6, 2, 1, 4, 2, 1, 6,
+            ],
+        ),
+        has_rows(&middle, 2, &[0, 0, 0, 1, 2, 0, 2, 1]),
+        has_rows(&shadow, 2, &[0, 0, 0, 1, 2, 0, 2, 1]),
+    ))
+}
+
+// The projection of two cells, one above the other, and the section between them.
+fn stacked(alloc: Global) -> Result<(bool, bool), NoMemory> {
+    let (Ok(low), Ok(high)) = (
+        Solid::of_box(alloc, &[0, 0, 0], &[1, 1, 1]),
+        Solid::of_box(alloc, &[0, 0, 5], &[1, 1, 6]),
+    ) else {
+        return Err(NoMemory);
+    };
+    let both = or(alloc, low.rows(), high.rows())?;
+    let shadow = project(alloc, both.rows(), 3)?;
+    let gap = slice(alloc, both.rows(), 3, 1)?;
+    Ok((
+        has_rows(&shadow, 2, &[0, 0, 0, 1, 1, 0, 1, 1]),
+        has_rows(&gap, 2, &[]),
+    ))
+}
+
+// A cell that is moved to the limit, and one that would leave it.
+fn moved(alloc: Global) -> Result<(bool, bool), NoMemory> {
+    let a = two_cells(alloc)?;
+    let far = shift(alloc, a.rows(), &[524_286, 0]);
+    let past = shift(alloc, a.rows(), &[524_287, 0]);
+    match far {
+        Ok(solid) => Ok((
+            has_rows(
+                &solid,
+                2,
+                &[524_286, 0, 524_286, 1, 524_288, 0, 524_288, 1],
+            ),
+            past.is_err_and(|e| e == ShapeError::Range),
+        )),
+        Err(_) => Err(NoMemory),
+    }
+}
+
+#[test]
+fn shapes(rt: HostRuntime) {
+    assert_eq!(rt; turned(rt.alloc()), Ok((true, true)));
+    assert_eq!(rt; clipped(rt.alloc()), Ok(true));
+    assert_eq!(rt; raised(rt.alloc()), Ok((true, true, true)));
+    assert_eq!(rt; stacked(rt.alloc()), Ok((true, true)));
+    assert_eq!(rt; moved(rt.alloc()), Ok((true, true)));
+}
