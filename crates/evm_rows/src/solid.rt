@@ -114,7 +114,7 @@ impl Solid {
     ghost use Rattle.std.specs.Prelude.{◌≡◌, ◌≤◌, ◌<◌, ◌-◌, ◌↔◌, ℤ, [], length, slice_index_or, IfOk, IsTrue};
     ghost use Rattle.evm_cells.specs.Vertices.{evm, cells};
     ghost use Rattle.evm_rows.specs.View.{vertices_of};
-    ghost use Rattle.evm_rows.specs.Rows.{AreRows, IsSolid, rows_of};
+    ghost use Rattle.evm_rows.specs.Rows.{AreRows, IsSolid, flat_of, rows_of};
 
     /// The solid of dimension `dim` without cells. Takes no memory.
     pub fn empty(alloc: Global, dim: usize) -> Solid
@@ -189,6 +189,13 @@ impl Solid {
             width: self.dim,
             skip: 0,
         }
+    }
+
+    /// The coordinates of all rows, borrowed: one row after another, `dim` numbers each.
+    pub fn flat(&self) -> &[i32]
+        ensures { result.now ≡ flat_of self.now.rows }
+    {
+        self.flat.as_slice()
     }
 
     /// A second solid with these rows. Takes memory for its numbers once.
