@@ -1,7 +1,8 @@
 -- A run goes on by one line.
-use Rattle.std.specs.Prelude.{ℕ, ◌≡◌, ◌+◌, Bool, true, false, ◌||◌, List, [], ◌∷◌, ◌++◌, length, drop, refl}
+use Rattle.std.specs.Prelude.{ℕ, zero, suc, ◌≡◌, ◌≤◌, ◌+◌, Bool, true, false, ◌||◌, List, [], ◌∷◌, ◌++◌, length, take, drop, refl}
 use Rattle.std.proofs.Common.{sym, ◌∙◌, ap, arith}
 use Rattle.std.proofs.lemmas.List.{length-drop, drop-drop, append_assoc}
+use Rattle.std.proofs.Math.Seq.{take-nil}
 use Rattle.evm_model.specs.Scene.{Scene}
 use Rattle.evm_model.specs.Replies.{Reply, reply_text, is_no}
 use Rattle.evm_model.specs.Runs.{Mark, answer, run, scene_after, texts, some_no}
@@ -58,3 +59,24 @@ some_no_more (x ∷ rs) r = ap (λ (t : Bool). is_no x || t) (some_no_more rs r)
 
 pub drop_more : {X : Type 0} (ls : List X) (n : ℕ) (l : X) (rest : List X) → drop n ls ≡ l ∷ rest → drop (n + 1) ls ≡ rest
 drop_more ls n l rest e = sym (drop-drop 1 n ls) ∙ ap (λ (t : List _). drop 1 t) e
+
+-- as many replies as marks
+pub run_length : (scene : Scene) (ls : List (List ℕ)) (ms : List Mark) → length ms ≤ length ls → length (run scene ls ms) ≡ length ms
+run_length scene [] [] h = refl
+run_length scene [] (m ∷ ms) h = absurd (omega arith)
+run_length scene (l ∷ ls) [] h = refl
+run_length scene (l ∷ ls) (m ∷ ms) h = ap suc (run_length (answer scene l m).scene ls ms (omega arith))
+
+-- the replies to a front
+pub run_front : (scene : Scene) (ls : List (List ℕ)) (ms : List Mark) (k : ℕ) → run scene ls (take k ms) ≡ take k (run scene ls ms)
+run_front scene [] ms k = sym (take-nil k)
+run_front scene (l ∷ ls) [] k = ap (run scene (l ∷ ls)) (take-nil k) ∙ sym (take-nil k)
+run_front scene (l ∷ ls) (m ∷ ms) zero = refl
+run_front scene (l ∷ ls) (m ∷ ms) (suc k) = ap (λ (t : List Reply). (answer scene l m).reply ∷ t) (run_front (answer scene l m).scene ls ms k)
+
+-- later lines change no earlier reply
+pub run_later : (scene : Scene) (ls more : List (List ℕ)) (ms : List Mark) → length ms ≤ length ls → run scene (ls ++ more) ms ≡ run scene ls ms
+run_later scene [] more [] h = run_no_marks scene more
+run_later scene [] more (m ∷ ms) h = absurd (omega arith)
+run_later scene (l ∷ ls) more [] h = refl
+run_later scene (l ∷ ls) more (m ∷ ms) h = ap (λ (t : List Reply). (answer scene l m).reply ∷ t) (run_later (answer scene l m).scene ls more ms (omega arith))

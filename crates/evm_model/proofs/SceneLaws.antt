@@ -1,14 +1,16 @@
 -- How names stand for entries, before and after an edit.
-use Rattle.std.proofs.Common.{◌≡◌, ℕ, ◌+◌, Bool, true, false, not, cond, ◌&&◌, ◌||◌, List, [], ◌∷◌, ◌++◌, Option, Some, None, pos, refl, sym, ap, ◌∙◌, subst, is_some, bytes_eq, count_by}
+use Rattle.std.proofs.Common.{ℤ, ◌≡◌, ℕ, ◌+◌, Bool, true, false, not, cond, ◌&&◌, ◌||◌, List, [], ◌∷◌, ◌++◌, Option, Some, None, pos, refl, sym, ap, ◌∙◌, subst, is_some, bytes_eq, count_by}
 use Rattle.std.specs.List.{list_any, list_all}
 use Rattle.std.proofs.lemmas.Bool.{false≢true}
 use Rattle.std.proofs.lemmas.Slice.Eq.{bytes_eq-Decides}
 use Rattle.std.proofs.lemmas.List.Folds.{list_any-append, list_all-append}
 use Rattle.std.proofs.lemmas.List.Sums.{sum_by-cons}
+use Rattle.evm_cells.specs.Places.{ascending}
+use Rattle.evm_cells.specs.Limits.{IsCellSet, is_cell}
 use Rattle.evm_cells.proofs.Xor.{and_first, and_second, and_both}
 use Rattle.evm_cells.proofs.Order.{same_tests}
 use Rattle.evm_model.specs.Figures.{Figure, same_figure}
-use Rattle.evm_model.specs.Scene.{Scene, Entry, What, Given, has_name, entry_of, with_entry, with_figure, with_new, stands, dim_of, dim_of_entry, value, entry_value, is_dim, names_differ, IsWell}
+use Rattle.evm_model.specs.Scene.{Scene, Entry, What, Given, has_name, entry_of, with_entry, with_figure, with_new, stands, dim_of, dim_of_entry, value, entry_value, is_dim, names_differ, holds_cells, IsWell}
 use Rattle.evm_model.specs.Edits.{changed_names}
 use Rattle.evm_model.proofs.FigureLaws.{same_itself}
 
@@ -109,11 +111,20 @@ value_own scene name new s = ap entry_value (own_entry scene.entries name (input
 pub value_other : (scene : Scene) (name other : List ℕ) (new : Figure) → bytes_eq name other ≡ false → value (with_figure scene name new) other ≡ value scene other
 value_other scene name other new d = ap entry_value (other_entry scene.entries name other (input name new) refl d)
 
+-- a cell set, as the test of scenes says it
+pub holds : (n : ℕ) (S : List (List ℤ)) → IsCellSet n S → holds_cells n (Given S) ≡ true
+holds n S s = and_both (ascending S) (list_all (is_cell n) S) s.ascends s.cells
+
+pub holds_none : (n : ℕ) → holds_cells n (Given []) ≡ true
+unfolding ascending
+holds_none n = refl
+
 -- a scene stays well with another figure of the same dimension
-pub well_figure : (scene : Scene) (name : List ℕ) (new : Figure) → IsWell scene → dim_of scene name ≡ new.dim → IsWell (with_figure scene name new)
-well_figure scene name new well d = record {
+pub well_figure : (scene : Scene) (name : List ℕ) (new : Figure) → IsWell scene → dim_of scene name ≡ new.dim → holds_cells new.dim (Given new.cells) ≡ true → IsWell (with_figure scene name new)
+well_figure scene name new well d h = record {
   names = differ_with scene.entries name (input name new) refl well.names;
   dims = by_found (entry_of scene.entries name) refl;
+  cells = all_with (λ (e : Entry). holds_cells e.dim e.what) scene.entries name (input name new) h well.cells;
 }
   where
     ok : Entry → Bool
@@ -163,11 +174,13 @@ differ_end (e ∷ es) new d h =
     rest_not q = or_second (bytes_eq e.name new.name) (list_any (has_name new.name) es) q
 
 -- a scene stays well with a new name
-pub well_new : (scene : Scene) (name : List ℕ) (dim : ℕ) (what : What) → IsWell scene → stands scene name ≡ false → is_dim (pos dim) ≡ true → IsWell (with_new scene name dim what)
-well_new scene name dim what well s d = record {
+pub well_new : (scene : Scene) (name : List ℕ) (dim : ℕ) (what : What) → IsWell scene → stands scene name ≡ false → is_dim (pos dim) ≡ true → holds_cells dim what ≡ true → IsWell (with_new scene name dim what)
+well_new scene name dim what well s d h = record {
   names = differ_end scene.entries (record { name = name; dim = dim; what = what }) well.names (sym (stands_any scene.entries name) ∙ s);
   dims = list_all-append (λ (e : Entry). is_dim (pos e.dim)) scene.entries (record { name = name; dim = dim; what = what } ∷ [])
       ∙ and_both (list_all (λ (e : Entry). is_dim (pos e.dim)) scene.entries) (is_dim (pos dim) && true) well.dims (and_both (is_dim (pos dim)) true d refl);
+  cells = list_all-append (λ (e : Entry). holds_cells e.dim e.what) scene.entries (record { name = name; dim = dim; what = what } ∷ [])
+      ∙ and_both (list_all (λ (e : Entry). holds_cells e.dim e.what) scene.entries) (holds_cells dim what && true) well.cells (and_both (holds_cells dim what) true h refl);
 }
 
 -- how often a name stands where names differ

@@ -11,6 +11,13 @@ pub data Edit : Type 0 where
   Add : List ℕ → List ℤ → Edit
   Cut : List ℕ → List ℤ → Edit
 
+-- the name that an edit makes or changes
+abbrev pub name_of : Edit → List ℕ
+name_of (Input name dim) = name
+name_of (Toggle name nums) = name
+name_of (Add name nums) = name
+name_of (Cut name nums) = name
+
 -- why a line is refused
 pub data Code : Type 0 where
   Line : Code

@@ -4,3 +4,4 @@ pub mod Edits
 pub mod Replies
 pub mod Steps
 pub mod Runs
+pub mod Laws

@@ -1,6 +1,8 @@
 -- A scene: names in the order of their making, each with a dimension and what it stands for.
 use Rattle.std.specs.Prelude.{ℕ, ◌≡◌, Bool, true, not, ◌&&◌, if◌then◌else◌, ℤ, pos, int_le, List, [], ◌∷◌, ◌++◌, Option, None, Some, find, is_some, bytes_eq}
 use Rattle.std.specs.List.{list_any, list_all}
+use Rattle.evm_cells.specs.Places.{ascending}
+use Rattle.evm_cells.specs.Limits.{is_cell}
 use Rattle.evm_model.specs.Figures.{Figure, nothing}
 
 -- what a name stands for: the cells of an input
@@ -71,7 +73,12 @@ abbrev pub names_differ : List Entry → Bool
 names_differ [] = true
 names_differ (e ∷ es) = not (list_any (has_name e.name) es) && names_differ es
 
--- what each scene of a run keeps: names differ, and the dimensions are those that named solids have
+-- an input of this dimension holds a cell set
+abbrev pub holds_cells : ℕ → What → Bool
+holds_cells dim (Given cells) = ascending cells && list_all (is_cell dim) cells
+
+-- what each scene of a run keeps: names differ, dimensions are those that named solids have, and each input is a cell set
 pub record IsWell (scene : Scene) : Type 0 where
   pub names : names_differ scene.entries ≡ true
   pub dims : list_all (λ (e : Entry). is_dim (pos e.dim)) scene.entries ≡ true
+  pub cells : list_all (λ (e : Entry). holds_cells e.dim e.what) scene.entries ≡ true

@@ -66,9 +66,9 @@ pub same_solids : (a b : Vertices) (r : Bool) → IsTrue r ↔ ((a.dim ≡ b.dim
 same_solids a b r e =
     same_tests (same_figure (figure_of a) (figure_of b)) r
     (λ h. let f = same_equal (figure_of a) (figure_of b) (cell_set-cells a.dim a.rows).ascends (cell_set-cells b.dim b.rows).ascends h in
-      e.1 (ap (λ (x : Figure). x.dim) f, ap (λ (x : Figure). x.cells) f))
+    e.1 (ap (λ (x : Figure). x.dim) f, ap (λ (x : Figure). x.cells) f))
     (λ h. let p = e.0 h in
-      ap (λ (x : Figure). same_figure (figure_of a) x) (sym (figure_with a (figure_of b) p.0 p.1)) ∙ same_itself (figure_of a))
+    ap (λ (x : Figure). same_figure (figure_of a) x) (sym (figure_with a (figure_of b) p.0 p.1)) ∙ same_itself (figure_of a))
 
 -- an edit keeps the dimension
 pub figure_by_dim : (edit : BoxEdit) (a b : Figure) → (figure_by edit a b).dim ≡ a.dim

@@ -92,10 +92,10 @@ unfolding reply_text vertices_in
 says_shown v r dim count before a b c d header now vertices n k ea eb ec ed eh h =
     let numbers : List ℕ → List ℕ → List ℕ = λ x y. line_of (codes "ok " ++ x ++ 32 ∷ y) in
     let first : header ≡ before ++ numbers (decimal dim) (decimal count) =
-        eh ∙ ap (λ (t : List ℕ). t ++ 10 ∷ []) (ed ∙ ap (λ (t : List ℕ). t ++ decimal count) (ec ∙ ap (λ (t : List ℕ). t ++ 32 ∷ []) (eb ∙ ap (λ (t : List ℕ). t ++ decimal dim) ea)))
-        ∙ regroup before (codes "ok ") (decimal dim) (decimal count) in
+    eh ∙ ap (λ (t : List ℕ). t ++ 10 ∷ []) (ed ∙ ap (λ (t : List ℕ). t ++ decimal count) (ec ∙ ap (λ (t : List ℕ). t ++ 32 ∷ []) (eb ∙ ap (λ (t : List ℕ). t ++ decimal dim) ea)))
+    ∙ regroup before (codes "ok ") (decimal dim) (decimal count) in
     let text = ap (λ (x : ℕ). numbers (decimal x) (decimal count) ++ rows_text v.rows) n
-        ∙ ap (λ (x : ℕ). numbers (decimal v.dim) (decimal x) ++ rows_text v.rows) k
-        ∙ ap (λ (rows : List (List ℤ)). numbers (decimal v.dim) (decimal (length rows)) ++ rows_text rows) vertices in
+    ∙ ap (λ (x : ℕ). numbers (decimal v.dim) (decimal x) ++ rows_text v.rows) k
+    ∙ ap (λ (rows : List (List ℤ)). numbers (decimal v.dim) (decimal (length rows)) ++ rows_text rows) vertices in
     subst (λ (t : List ℕ). Says r before now t) text
     (says_after r before header now (numbers (decimal dim) (decimal count)) (rows_text v.rows) first h)

@@ -22,12 +22,11 @@ abbrev pub turn_with : Reply → Scene → Turn
 turn_with reply scene = record { reply = reply; scene = scene }
 
 pub carried : (old new : Scene) (before now : List ℕ) (reply : Reply) (turn : Turn) → turn ≡ turn_with reply new → now ≡ before ++ reply_text reply → is_no reply ≡ false → Carries (Ok tt) old new before now turn
-carried old new before now reply turn e t n =
-    (
-      t ∙ ap (λ (u : Turn). before ++ reply_text u.reply) (sym e),
-      ap (λ (u : Turn). u.scene) (sym e),
-      ap (λ (u : Turn). is_no u.reply) e ∙ n,
-    )
+carried old new before now reply turn e t n = (
+  t ∙ ap (λ (u : Turn). before ++ reply_text u.reply) (sym e),
+  ap (λ (u : Turn). u.scene) (sym e),
+  ap (λ (u : Turn). is_no u.reply) e ∙ n,
+)
 
 pub changed_text : (n : ℕ) → line_of (codes "ok " ++ decimal n) ≡ reply_text (Changed n)
 unfolding reply_text

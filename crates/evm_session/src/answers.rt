@@ -1,4 +1,5 @@
-// Answers a line.
+//! Carries out the command of a line, and says why a line is refused.
+
 ghost use Rattle.std.specs.Prelude.{◌≡◌};
 ghost use Rattle.evm_model.specs.Steps.{step, turn_of};
 ghost use Rattle.evm_session.specs.Answers.{Answers};

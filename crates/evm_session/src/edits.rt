@@ -1,4 +1,5 @@
-// Edits of the inputs.
+//! Edits of the inputs: a new one, and boxes that change one.
+
 ghost use Rattle.std.specs.Prelude.{◌≡◌, ◌<◌, ◌≤◌, ◌*◌, length, take, drop, IfOk, if◌then◌else◌};
 ghost use Rattle.evm_rows.specs.View.{vertices_of};
 ghost use Rattle.evm_model.specs.Steps.{turn_of};

@@ -1,4 +1,5 @@
-// The named inputs of a session.
+//! The named inputs of a session.
+
 ghost use Rattle.std.specs.Prelude.{◌≡◌, find, option_map};
 ghost use Rattle.evm_model.specs.Scene.{has_name, with_entry};
 ghost use Rattle.evm_session.specs.Fields.{entry_view, entries_view, input_of};

@@ -17,8 +17,8 @@ mod questions;
 mod refusals;
 mod replies;
 
-pub use evm_rows::NoMemory;
 use answers::answer;
+pub use evm_rows::NoMemory;
 use inputs::Inputs;
 
 /// The named solids that the lines so far have made.
@@ -61,3 +61,6 @@ impl Session {
         answer(&mut self.inputs, alloc, line, out)
     }
 }
+
+#[cfg(test)]
+mod tests;

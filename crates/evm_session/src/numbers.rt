@@ -1,4 +1,5 @@
-// Numbers of a line as dimensions and coordinates.
+//! Numbers of a line as dimensions and coordinates.
+
 ghost use Rattle.std.specs.Prelude.{◌≡◌, ◌≤◌, pos, nat_abs, length, take, true, false, MatchOption};
 ghost use Rattle.std.specs.List.{list_all};
 ghost use Rattle.evm_model.specs.Scene.{is_dim};

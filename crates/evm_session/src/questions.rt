@@ -1,4 +1,5 @@
-// Questions about a name.
+//! Questions about the solid of a name.
+
 ghost use Rattle.std.specs.Prelude.{◌≡◌};
 ghost use Rattle.evm_model.specs.Steps.{turn_of};
 ghost use Rattle.evm_session.specs.Carried.{Carries};

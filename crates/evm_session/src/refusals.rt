@@ -1,4 +1,5 @@
-// Why a line is refused.
+//! Why a line is refused.
+
 ghost use Rattle.std.specs.Prelude.{◌≡◌};
 ghost use Rattle.evm_model.specs.Replies.{No, reply_text};
 ghost use Rattle.evm_session.specs.Refusals.{code_of, of_box_error, of_line_error};

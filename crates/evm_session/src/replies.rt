@@ -1,4 +1,5 @@
-// Appends replies. Where memory ends, a part of a reply may stand behind what was there.
+//! Appends replies. Where memory ends, a part of a reply may stand behind what was there.
+
 ghost use Rattle.std.specs.Prelude.{◌≡◌, ◌++◌, ◌∷◌, [], ◌<◌, codes, decimal, length};
 ghost use Rattle.std.specs.Fmt.{signed_decimal};
 ghost use Rattle.evm_model.specs.Replies.{line_of, spaced, rows_text, reply_text, Shown};
@@ -74,10 +75,14 @@ fn say_row(out: &mut Vec<u8>, row: &[i32]) -> Result<(), NoMemory>
     }
 }
 
-/// Appends each row as a line.
+/// The most bytes of a coordinate in a reply, with the space or LF behind it: `-524288` and one more.
+const COORDINATE_BYTES: usize = 8;
+
+/// Appends each row as a line. The room for them is reserved once.
 fn say_rows(out: &mut Vec<u8>, rows: Rows<'_>) -> Result<(), NoMemory>
     ensures { Says result out.old.items out.new.items (rows_text (vertices_of rows.entry).rows) }
 {
+    out.reserve(rows.flat.len().saturating_mul(COORDINATE_BYTES))?;
     let mut left = rows.flat;
     while left.len() != 0 {
         let (row, rest) = split_row(left, rows.width, rows.skip);

@@ -21,8 +21,7 @@ pub returns : goal.returns
 returns c =
     let lo = c.split_at.ensures.front ∙ ap (take c.args.dim) c.in-Some.ensures.1 in
     let hi = c.split_at.ensures.back ∙ ap (drop c.args.dim) c.in-Some.ensures.1 in
-    let fits = must_fit (is_box (length c.split_at.result.0.now) c.split_at.result.0.now c.split_at.result.1.now) (λ e. let clash = c.in_ok-solid.ensures.range.1 e in cc) in
-    (
+    let fits = must_fit (is_box (length c.split_at.result.0.now) c.split_at.result.0.now c.split_at.result.1.now) (λ e. let clash = c.in_ok-solid.ensures.range.1 e in cc) in (
       fits_by c.args.dim c.args.numbers.now c.split_at.result.0.now c.split_at.result.1.now _ lo hi fits,
       box_by c.args.dim c.args.numbers.now c.split_at.result.0.now c.split_at.result.1.now c.in_ok-solid.solid lo hi c.in_ok-solid.ensures.dim c.in_ok-solid.ensures.cells,
     )

@@ -11,6 +11,6 @@ returns c =
     let count = cond {A = ℕ} c.in_ok-made.made.changed 1 0 in
     let turn = c.in_ok-made.ensures.0 ∙ ap (λ (s : Scene). turn_with (Changed count) s) (sym c.replace.ensures) in
     let text = c.in_ok-say_number.ensures
-        ∙ ap (λ (n : ℕ). c.args.out.now.items ++ line_of (codes "ok " ++ decimal n)) c.changes.ensures
-        ∙ ap (λ (t : List ℕ). c.args.out.now.items ++ t) (changed_text count) in
+    ∙ ap (λ (n : ℕ). c.args.out.now.items ++ line_of (codes "ok " ++ decimal n)) c.changes.ensures
+    ∙ ap (λ (t : List ℕ). c.args.out.now.items ++ t) (changed_text count) in
     carried c.args.inputs.now c.replace.new.self c.args.out.now.items c.say_number.new.out.items (Changed count) (turn_of c.args.inputs.now (command_of c.args.edit c.args.name.now c.args.nums.now)) turn text refl

@@ -11,6 +11,6 @@ pub returns : goal.returns
 returns c =
     let free = stands_by (λ s. input_of c.args.name.now s.now) c.solid.result c.args.inputs.now c.args.name.now c.solid.ensures ∙ sym c.is_some.ensures ∙ c.if-is_some.false in
     let turn = input_made c.args.inputs.now c.args.name.now c.args.dim.now c.in-Some.dim free c.in-Some.ensures.0 c.in-Some.ensures.1
-        ∙ ap (λ (s : Scene). turn_with (Changed 0) s) (sym c.in_ok-add.ensures.ok) in
+    ∙ ap (λ (s : Scene). turn_with (Changed 0) s) (sym c.in_ok-add.ensures.ok) in
     let text = c.in_ok-say_number.ensures ∙ ap (λ (t : List ℕ). c.args.out.now.items ++ t) (changed_text 0) in
     carried c.args.inputs.now c.add.new.self c.args.out.now.items c.say_number.new.out.items (Changed 0) (edited c.args.inputs.now (Input c.args.name.now c.args.dim.now) (Changed 0)) turn text refl

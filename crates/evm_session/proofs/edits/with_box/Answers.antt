@@ -24,21 +24,20 @@ returns c =
     let both = sym c.len.ensures ∙ c.if-len-dim.false ∙ ap (λ (n : ℕ). 2 * n) c.dim-dim.ensures in
     let many : (length nums == 2 * v.dim) ≡ true = (Decides-eqb (length nums) (2 * v.dim)).1 both in
     let fits : box_fits (take v.dim nums) (drop v.dim nums) ≡ true =
-        ap (λ (n : ℕ). box_fits (take n nums) (drop n nums)) (sym c.dim-dim.ensures)
-        ∙ ap (λ (xs : List ℤ). box_fits (take c.dim-dim.result xs) (drop c.dim-dim.result xs)) (sym c.values.ensures.value)
-        ∙ c.in_ok-cuboid.ensures.0 in
+    ap (λ (n : ℕ). box_fits (take n nums) (drop n nums)) (sym c.dim-dim.ensures)
+    ∙ ap (λ (xs : List ℤ). box_fits (take c.dim-dim.result xs) (drop c.dim-dim.result xs)) (sym c.values.ensures.value)
+    ∙ c.in_ok-cuboid.ensures.0 in
     let cuboid : figure_of c.in_ok-cuboid.cuboid ≡ box_of (take v.dim nums) (drop v.dim nums) =
-        c.in_ok-cuboid.ensures.1
-        ∙ ap (λ (xs : List ℤ). box_of (take c.dim-dim.result xs) (drop c.dim-dim.result xs)) c.values.ensures.value
-        ∙ ap (λ (n : ℕ). box_of (take n nums) (drop n nums)) c.dim-dim.ensures in
+    c.in_ok-cuboid.ensures.1
+    ∙ ap (λ (xs : List ℤ). box_of (take c.dim-dim.result xs) (drop c.dim-dim.result xs)) c.values.ensures.value
+    ∙ ap (λ (n : ℕ). box_of (take n nums) (drop n nums)) c.dim-dim.ensures in
     let figure : figure_of made ≡ figure_by c.args.edit (figure_of v) (box_of (take v.dim nums) (drop v.dim nums)) =
-        c.in_ok-solid.ensures
-        ∙ ap (λ (a : Vertices). figure_by c.args.edit (figure_of a) (figure_of (vertices_of c.rows-2.result))) c.rows.ensures
-        ∙ ap (λ (b : Vertices). figure_by c.args.edit (figure_of v) (figure_of b)) c.rows-2.ensures
-        ∙ ap (λ (f : Figure). figure_by c.args.edit (figure_of v) f) cuboid in
-    (
+    c.in_ok-solid.ensures
+    ∙ ap (λ (a : Vertices). figure_by c.args.edit (figure_of a) (figure_of (vertices_of c.rows-2.result))) c.rows.ensures
+    ∙ ap (λ (b : Vertices). figure_by c.args.edit (figure_of v) (figure_of b)) c.rows-2.ensures
+    ∙ ap (λ (f : Figure). figure_by c.args.edit (figure_of v) f) cuboid in (
       box_made c.args.edit c.args.inputs.now c.args.name.now nums v made c.same-changed.result c.facts.ensures c.in-Some.ensures many fits figure
-      (same_solids v made c.same-changed.result c.same-changed.ensures.cells),
+          (same_solids v made c.same-changed.result c.same-changed.ensures.cells),
       dim_found c.args.inputs.now c.args.name.now v c.in-Some.ensures
-      ∙ sym (ap (λ (f : Figure). f.dim) figure ∙ figure_by_dim c.args.edit (figure_of v) (box_of (take v.dim nums) (drop v.dim nums))),
+          ∙ sym (ap (λ (f : Figure). f.dim) figure ∙ figure_by_dim c.args.edit (figure_of v) (box_of (take v.dim nums) (drop v.dim nums))),
     )

@@ -24,8 +24,7 @@ returns-then-same c =
 pub loop-named-preserved : goal.loop-named-preserved
 loop-named-preserved c =
     let i = c.loop-named.named-index in
-    let other = subst (λ (xs : List Named). has_name c.args.name.now (entry_view (get_or xs i c.named-item.result)) ≡ false) c.loop-named.invariant.0 (sym c.same.ensures ∙ c.if-same.false) in
-    (
+    let other = subst (λ (xs : List Named). has_name c.args.name.now (entry_view (get_or xs i c.named-item.result)) ≡ false) c.loop-named.invariant.0 (sym c.same.ensures ∙ c.if-same.false) in (
       set-get_or c.loop-named.list i c.named-item.result ∙ c.loop-named.invariant.0,
       passed_more c.args.list.now c.args.name.now (input_of c.args.name.now c.args.solid) i c.named-item.result c.loop-named-test.true other c.loop-named.invariant.1,
     )

@@ -18,10 +18,10 @@ returns c =
     let v = c.in-Some.solid.now in
     let n = c.in_ok-faces.faces in
     let counted : n ≡ boundary_of (value scene name) =
-        boundary_found v n (c.in_ok-faces.ensures ∙ ap (λ (a : Vertices). boundary a.dim (cells a.dim a.rows)) c.rows.ensures)
-        ∙ ap boundary_of (sym (value_found scene name v c.in-Some.ensures)) in
+    boundary_found v n (c.in_ok-faces.ensures ∙ ap (λ (a : Vertices). boundary a.dim (cells a.dim a.rows)) c.rows.ensures)
+    ∙ ap boundary_of (sym (value_found scene name v c.in-Some.ensures)) in
     let text = c.in_ok-say_number.ensures
-        ∙ ap (λ (k : ℕ). c.args.out.now.items ++ line_of (codes "ok " ++ decimal k)) counted
-        ∙ ap (λ (t : List ℕ). c.args.out.now.items ++ t) (measured_text (boundary_of (value scene name))) in
+    ∙ ap (λ (k : ℕ). c.args.out.now.items ++ line_of (codes "ok " ++ decimal k)) counted
+    ∙ ap (λ (t : List ℕ). c.args.out.now.items ++ t) (measured_text (boundary_of (value scene name))) in
     carried scene scene c.args.out.now.items c.say_number.new.out.items (Measured (boundary_of (value scene name))) (asked (name_causes scene name) scene (Measured (boundary_of (value scene name))))
     (asked_found scene name v (Measured (boundary_of (value scene name))) c.in-Some.ensures) text refl

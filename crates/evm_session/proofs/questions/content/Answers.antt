@@ -18,10 +18,10 @@ returns c =
     let v = c.in-Some.solid.now in
     let n = c.in_ok-cells.cells in
     let counted : n ≡ content_of (value scene name) =
-        content_found v n (c.in_ok-cells.ensures ∙ ap (λ (a : Vertices). content (cells a.dim a.rows)) c.rows.ensures)
-        ∙ ap content_of (sym (value_found scene name v c.in-Some.ensures)) in
+    content_found v n (c.in_ok-cells.ensures ∙ ap (λ (a : Vertices). content (cells a.dim a.rows)) c.rows.ensures)
+    ∙ ap content_of (sym (value_found scene name v c.in-Some.ensures)) in
     let text = c.in_ok-say_number.ensures
-        ∙ ap (λ (k : ℕ). c.args.out.now.items ++ line_of (codes "ok " ++ decimal k)) counted
-        ∙ ap (λ (t : List ℕ). c.args.out.now.items ++ t) (measured_text (content_of (value scene name))) in
+    ∙ ap (λ (k : ℕ). c.args.out.now.items ++ line_of (codes "ok " ++ decimal k)) counted
+    ∙ ap (λ (t : List ℕ). c.args.out.now.items ++ t) (measured_text (content_of (value scene name))) in
     carried scene scene c.args.out.now.items c.say_number.new.out.items (Measured (content_of (value scene name))) (asked (name_causes scene name) scene (Measured (content_of (value scene name))))
     (asked_found scene name v (Measured (content_of (value scene name))) c.in-Some.ensures) text refl

@@ -22,9 +22,9 @@ returns-in_default-coordinates c =
     let high : to_z w32 (of_z w32 c.limit-limit.result) ≡ pos (limit c.dim-dim.result) = search rules in
     let low : to_z w32 (of_z w32 (pos 0 -ℤ to_z w32 (of_z w32 c.limit-limit.result))) ≡ neg_ℤ (pos (limit c.dim-dim.result)) = search rules in
     let out : list_all (is_point_coord v.dim) nums ≡ false =
-        subst (λ (n : ℕ). list_all (is_point_coord n) nums ≡ false) c.dim-dim.ensures
-        (subst (λ (xs : List ℤ). list_all (is_point_coord c.dim-dim.result) xs ≡ false) c.values.ensures.value
-        (sym (between_points c.dim-dim.result c.values.result.now _ _ low high) ∙ c.in_default-coordinates.ensures)) in
+    subst (λ (n : ℕ). list_all (is_point_coord n) nums ≡ false) c.dim-dim.ensures
+    (subst (λ (xs : List ℤ). list_all (is_point_coord c.dim-dim.result) xs ≡ false) c.values.ensures.value
+    (sym (between_points c.dim-dim.result c.values.result.now _ _ low high) ∙ c.in_default-coordinates.ensures)) in
     let many : (length nums == v.dim) ≡ true = (Decides-eqb (length nums) v.dim).1 (sym c.len.ensures ∙ c.if-len-dim.false ∙ c.dim-dim.ensures) in
     (place_by c.args.inputs.now c.args.name.now nums is_point_coord v _ true false c.in-Some.ensures many out, refl, refl)
 
@@ -46,16 +46,16 @@ returns c =
     let high : to_z w32 (of_z w32 c.limit-limit.result) ≡ pos (limit c.dim-dim.result) = search rules in
     let low : to_z w32 (of_z w32 (pos 0 -ℤ to_z w32 (of_z w32 c.limit-limit.result))) ≡ neg_ℤ (pos (limit c.dim-dim.result)) = search rules in
     let within : list_all (is_point_coord v.dim) nums ≡ true =
-        subst (λ (n : ℕ). list_all (is_point_coord n) nums ≡ true) c.dim-dim.ensures
-        (subst (λ (xs : List ℤ). list_all (is_point_coord c.dim-dim.result) xs ≡ true) c.values.ensures.value
-        (sym (between_points c.dim-dim.result c.values.result.now _ _ low high) ∙ c.in-Some-coordinates.ensures.0)) in
+    subst (λ (n : ℕ). list_all (is_point_coord n) nums ≡ true) c.dim-dim.ensures
+    (subst (λ (xs : List ℤ). list_all (is_point_coord c.dim-dim.result) xs ≡ true) c.values.ensures.value
+    (sym (between_points c.dim-dim.result c.values.result.now _ _ low high) ∙ c.in-Some-coordinates.ensures.0)) in
     let both = ap (length {A = ℤ}) c.values.ensures.value ∙ sym c.len.ensures ∙ c.if-len-dim.false in
     let place = ap (λ (n : ℕ). take n c.in-Some-coordinates.point) (sym both) ∙ c.in-Some-coordinates.ensures.1 ∙ c.values.ensures.value in
     let many : (length nums == v.dim) ≡ true = (Decides-eqb (length nums) v.dim).1 (sym c.len.ensures ∙ c.if-len-dim.false ∙ c.dim-dim.ensures) in
     let placed : place_view c.place-place.result ≡ place_of (value scene name) nums =
-        ap place_view (c.place-place.ensures ∙ ap (λ (a : Vertices). place_in a.dim (cells a.dim a.rows) (take c.dim-dim.result c.in-Some-coordinates.point)) c.rows.ensures ∙ ap (place_in v.dim (cells v.dim v.rows)) place)
-        ∙ place_found v nums
-        ∙ ap (λ (a : Figure). place_of a nums) (sym (value_found scene name v c.in-Some.ensures)) in
+    ap place_view (c.place-place.ensures ∙ ap (λ (a : Vertices). place_in a.dim (cells a.dim a.rows) (take c.dim-dim.result c.in-Some-coordinates.point)) c.rows.ensures ∙ ap (place_in v.dim (cells v.dim v.rows)) place)
+    ∙ place_found v nums
+    ∙ ap (λ (a : Figure). place_of a nums) (sym (value_found scene name v c.in-Some.ensures)) in
     let text = c.in_ok-say.ensures ∙ ap (λ (t : List ℕ). c.args.out.now.items ++ t) (c.placed_text.ensures ∙ ap (λ (x : Place). reply_text (Placed x)) placed) in
     carried scene scene c.args.out.now.items c.say.new.out.items (Placed (place_of (value scene name) nums)) _
     (place_by scene name nums is_point_coord v _ true true c.in-Some.ensures many within) text refl

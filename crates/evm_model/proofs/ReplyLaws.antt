@@ -1,0 +1,50 @@
+-- Texts of replies.
+use Rattle.std.proofs.Common.{◌≡◌, ◌⊎◌, ℕ, Bool, true, false, cond, List, [], ◌∷◌, ◌++◌, length, codes, decimal, ℤ, refl, sym, ap, ◌∙◌, inl, inr, ⊎_elim}
+use Rattle.std.specs.Prelude.{nat_eq}
+use Rattle.std.specs.List.{starts_with}
+use Rattle.std.proofs.lemmas.List.{append_assoc}
+use Rattle.evm_model.specs.Figures.{Figure, vertices_in, Inside, Boundary, Outside}
+use Rattle.evm_model.specs.Edits.{Code, Line, Syntax, Name, Taken, Dim, Range, Memory}
+use Rattle.evm_model.specs.Replies.{Reply, Empty, No, Changed, Shown, Measured, Filled, Placed, reply_text, line_of, rows_text, spaced, code_text, place_text, is_no}
+
+pub begins : (reply : Reply) → starts_with nat_eq (reply_text reply) (codes "no") ≡ is_no reply
+unfolding reply_text
+begins Empty = refl
+begins (No code) = refl
+begins (Changed n) = refl
+begins (Shown a) = refl
+begins (Measured n) = refl
+begins (Filled full) = refl
+begins (Placed place) = refl
+
+-- a text that is empty or ends with LF
+abbrev pub IsLines : List ℕ → Type 0
+IsLines text = (text ≡ []) ⊎ ((front : List ℕ) × (text ≡ front ++ 10 ∷ []))
+
+one_line : (text : List ℕ) → IsLines (line_of text)
+one_line text = inr (text, refl)
+
+append_nil : (xs : List ℕ) → xs ++ [] ≡ xs
+append_nil [] = refl
+append_nil (x ∷ xs) = ap (λ (ys : List ℕ). x ∷ ys) (append_nil xs)
+
+then_lines : (text more : List ℕ) → IsLines more → IsLines (line_of text ++ more)
+then_lines text more h =
+    ⊎_elim
+    (λ e. inr (text, ap (λ (t : List ℕ). line_of text ++ t) e ∙ append_nil (line_of text)))
+    (λ p. inr (line_of text ++ p.0, ap (λ (t : List ℕ). line_of text ++ t) p.1 ∙ sym (append_assoc (line_of text) p.0 (10 ∷ []))))
+    h
+
+rows_lines : (rows : List (List ℤ)) → IsLines (rows_text rows)
+rows_lines [] = inl refl
+rows_lines (row ∷ rows) = then_lines (spaced row) (rows_text rows) (rows_lines rows)
+
+pub are_lines : (reply : Reply) → IsLines (reply_text reply)
+unfolding reply_text
+are_lines Empty = inl refl
+are_lines (No code) = one_line (codes "no " ++ code_text code)
+are_lines (Changed n) = one_line (codes "ok " ++ decimal n)
+are_lines (Shown a) = then_lines (codes "ok " ++ decimal a.dim ++ 32 ∷ decimal (length (vertices_in a))) (rows_text (vertices_in a)) (rows_lines (vertices_in a))
+are_lines (Measured n) = one_line (codes "ok " ++ decimal n)
+are_lines (Filled full) = one_line (codes "ok " ++ cond full (codes "filled") (codes "empty"))
+are_lines (Placed place) = one_line (codes "ok " ++ place_text place)
