@@ -53,9 +53,10 @@ first_mild [] code h e = absurd (no_some e)
     no_some : None ≡ Some code → ⊥
     no_some q = cc
 first_mild (c ∷ cs) code h e =
-    elim c.0 as (λ b. cond b (Some c.1) (first_cause cs) ≡ Some code → is_memory code ≡ false)
-    [ true ↦ λ k. ap is_memory (sym (same_code k)) ∙ not_true (is_memory c.1) (and_first (not (is_memory c.1)) (no_memory cs) h)
-    | false ↦ λ k. first_mild cs code (and_second (not (is_memory c.1)) (no_memory cs) h) k ] e
+    elim c.0 as (λ b. cond b (Some c.1) (first_cause cs) ≡ Some code → is_memory code ≡ false) [
+      | true ↦ λ k. ap is_memory (sym (same_code k)) ∙ not_true (is_memory c.1) (and_first (not (is_memory c.1)) (no_memory cs) h)
+      | false ↦ λ k. first_mild cs code (and_second (not (is_memory c.1)) (no_memory cs) h) k
+    ] e
   where
     same_code : Some c.1 ≡ Some code → c.1 ≡ code
     same_code q = cc

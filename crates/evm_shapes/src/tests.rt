@@ -81,11 +81,7 @@ fn moved(alloc: Global) -> Result<(bool, bool), NoMemory> {
     let past = shift(alloc, a.rows(), &[524_287, 0]);
     match far {
         Ok(solid) => Ok((
-            has_rows(
-                &solid,
-                2,
-                &[524_286, 0, 524_286, 1, 524_288, 0, 524_288, 1],
-            ),
+            has_rows(&solid, 2, &[524_286, 0, 524_286, 1, 524_288, 0, 524_288, 1]),
             past.is_err_and(|e| e == ShapeError::Range),
         )),
         Err(_) => Err(NoMemory),
