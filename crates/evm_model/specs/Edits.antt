@@ -18,7 +18,8 @@ name_of (Toggle name nums) = name
 name_of (Add name nums) = name
 name_of (Cut name nums) = name
 
--- why a line is refused
+-- why a line is refused: it is too long, or no command; the name does not stand, or stands already; the dimension or the count
+-- of numbers is wrong; a number is past the limits; or memory was missing
 pub data Code : Type 0 where
   Line : Code
   Syntax : Code
@@ -33,13 +34,15 @@ abbrev pub first_cause : List (Bool × Code) → Option Code
 first_cause [] = None
 first_cause (c ∷ cs) = if c.0 then Some c.1 else first_cause cs
 
--- the two corners that 2n numbers state
+-- the lower corner that 2n numbers state
 abbrev pub low_of : ℕ → List ℤ → List ℤ
 low_of n nums = take n nums
 
+-- the upper corner
 abbrev pub high_of : ℕ → List ℤ → List ℤ
 high_of n nums = drop n nums
 
+-- the box between them
 abbrev pub box_at : ℕ → List ℤ → Figure
 box_at n nums = box_of (low_of n nums) (high_of n nums)
 
@@ -70,6 +73,7 @@ edit_causes scene (Toggle name nums) = box_causes scene name nums
 edit_causes scene (Add name nums) = box_causes scene name nums
 edit_causes scene (Cut name nums) = box_causes scene name nums
 
+-- the code that refuses an edit, or none
 abbrev pub refusal : Scene → Edit → Option Code
 refusal scene edit = first_cause (edit_causes scene edit)
 
@@ -89,5 +93,6 @@ abbrev pub changed_names : Scene → Scene → ℕ
 changed_names old new =
     count_by (λ (e : Entry). stands new e.name && not (same_figure (value old e.name) (value new e.name))) old.entries
 
+-- how many names an edit changes
 abbrev pub changed : Scene → Edit → ℕ
 changed scene edit = changed_names scene (after scene edit)

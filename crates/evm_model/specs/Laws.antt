@@ -29,10 +29,11 @@ RefusalChangesNothing = (scene : Scene) (line : List ℕ) → is_no (step scene 
 abbrev pub StepHasMemory : Type 0
 StepHasMemory = (scene : Scene) (line : List ℕ) → (step scene line).reply ≢ No Memory
 
--- each scene of a run is well
+-- the scene before the first line is well
 abbrev pub StartIsWell : Type 0
 StartIsWell = IsWell start
 
+-- a line keeps a scene well
 abbrev pub StepsKeepWell : Type 0
 StepsKeepWell = (scene : Scene) (line : List ℕ) → IsWell scene → IsWell (step scene line).scene
 
@@ -60,10 +61,11 @@ ToggleChangesOne = (scene : Scene) (name : List ℕ) (nums : List ℤ) → IsWel
 abbrev pub OneReplyEach : Type 0
 OneReplyEach = (scene : Scene) (ls : List (List ℕ)) (marks : List Mark) → length marks ≤ length ls → length (run scene ls marks) ≡ length marks
 
--- the replies to a front of the lines are the front of the replies, and do not depend on the lines after it
+-- the replies to a front of the lines are the front of the replies
 abbrev pub FrontOfRun : Type 0
 FrontOfRun = (scene : Scene) (ls : List (List ℕ)) (marks : List Mark) (k : ℕ) → run scene ls (take k marks) ≡ take k (run scene ls marks)
 
+-- later lines change no earlier reply
 abbrev pub LaterLinesWait : Type 0
 LaterLinesWait = (scene : Scene) (ls more : List (List ℕ)) (marks : List Mark) → length marks ≤ length ls → run scene (ls ++ more) marks ≡ run scene ls marks
 

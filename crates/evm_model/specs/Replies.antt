@@ -15,6 +15,7 @@ pub data Reply : Type 0 where
   Filled : Bool → Reply
   Placed : Place → Reply
 
+-- the word of a code
 abbrev pub code_text : Code → List ℕ
 code_text Line = codes "line"
 code_text Syntax = codes "syntax"
@@ -24,6 +25,7 @@ code_text Dim = codes "dim"
 code_text Range = codes "range"
 code_text Memory = codes "memory"
 
+-- the word of a place
 abbrev pub place_text : Place → List ℕ
 place_text Inside = codes "inside"
 place_text Boundary = codes "boundary"

@@ -6,11 +6,12 @@ use Rattle.evm_model.specs.Edits.{Memory}
 use Rattle.evm_model.specs.Replies.{Reply, No, reply_text, is_no}
 use Rattle.evm_model.specs.Steps.{Turn, step, stays}
 
--- a last part that is not empty is a line too
+-- the last part of a script that was cut at each LF: a line where it is not empty
 abbrev pub last_line : List ℕ → List (List ℕ)
 last_line [] = []
 last_line (b ∷ bs) = (b ∷ bs) ∷ []
 
+-- the lines of a script that was cut at each LF
 abbrev pub lines_of_parts : List (List ℕ) → List (List ℕ)
 lines_of_parts [] = []
 lines_of_parts (x ∷ []) = last_line x
@@ -36,7 +37,7 @@ run scene [] marks = []
 run scene (line ∷ more) [] = []
 run scene (line ∷ more) (mark ∷ marks) = (answer scene line mark).reply ∷ run (answer scene line mark).scene more marks
 
--- the scene after them
+-- the scene after these lines
 abbrev pub scene_after : Scene → List (List ℕ) → List Mark → Scene
 scene_after scene [] marks = scene
 scene_after scene (line ∷ more) [] = scene

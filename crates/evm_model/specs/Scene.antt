@@ -9,11 +9,13 @@ use Rattle.evm_model.specs.Figures.{Figure, nothing}
 pub data What : Type 0 where
   Given : List (List ℤ) → What
 
+-- a name, with the dimension of its solid and what it stands for
 pub record Entry : Type 0 where
   pub name : List ℕ
   pub dim : ℕ
   pub what : What
 
+-- the names, in the order of their making
 pub record Scene : Type 0 where
   pub entries : List Entry
 
@@ -21,28 +23,32 @@ pub record Scene : Type 0 where
 abbrev pub start : Scene
 start = record { entries = [] }
 
+-- whether an entry is of this name
 abbrev pub has_name : List ℕ → Entry → Bool
 has_name name e = bytes_eq e.name name
 
--- the entry of a name
+-- the entry of a name, or none where the name does not stand
 abbrev pub entry_of : List Entry → List ℕ → Option Entry
 entry_of entries name = find (has_name name) entries
 
--- whether a name is in the scene
+-- whether a name stands
 abbrev pub stands : Scene → List ℕ → Bool
 stands scene name = is_some (entry_of scene.entries name)
 
+-- the dimension of an entry that may be there, 0 without one
 abbrev pub dim_of_entry : Option Entry → ℕ
 dim_of_entry None = 0
 dim_of_entry (Some e) = e.dim
 
--- the dimension of a name
+-- the dimension of a name, 0 where it does not stand
 abbrev pub dim_of : Scene → List ℕ → ℕ
 dim_of scene name = dim_of_entry (entry_of scene.entries name)
 
+-- the value of what a name stands for
 abbrev pub what_value : ℕ → What → Figure
 what_value dim (Given cells) = record { dim = dim; cells = cells }
 
+-- the value of an entry that may be there, no cell without one
 abbrev pub entry_value : Option Entry → Figure
 entry_value None = nothing 0
 entry_value (Some e) = what_value e.dim e.what

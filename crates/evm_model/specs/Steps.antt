@@ -11,6 +11,7 @@ use Rattle.evm_model.specs.Scene.{Scene, value, dim_of}
 use Rattle.evm_model.specs.Edits.{Edit, Input, Toggle, Add, Cut, Code, Line, Syntax, first_cause, name_causes, place_causes, refusal, after, changed}
 use Rattle.evm_model.specs.Replies.{Reply, Empty, No, Changed, Shown, Measured, Filled, Placed}
 
+-- what a line does: its reply, and the scene after it
 pub record Turn : Type 0 where
   pub reply : Reply
   pub scene : Scene

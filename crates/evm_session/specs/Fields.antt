@@ -15,11 +15,14 @@ figure_of v = record { dim = v.dim; cells = cells v.dim v.rows }
 abbrev pub input_of : List ℕ → Vertices → Entry
 input_of name v = record { name = name; dim = v.dim; what = Given (cells v.dim v.rows) }
 
+-- the entry of a named solid
 abbrev pub entry_view : Named → Entry
 entry_view n = input_of n.name n.solid
 
+-- the entries of named solids, in order
 abbrev pub entries_view : List Named → List Entry
 entries_view list = map entry_view list
 
+-- the scene of the inputs
 abbrev pub scene_view : Inside → Scene
 scene_view a = record { entries = entries_view a.list.items }

@@ -11,8 +11,10 @@ place_view places.Inside = figures.Inside
 place_view places.Boundary = figures.Boundary
 place_view places.Outside = figures.Outside
 
+-- the reply that tells whether a cell is filled
 abbrev pub filled_text : Bool → List ℕ
 filled_text filled = reply_text (Filled filled)
 
+-- the reply that tells where a point stands
 abbrev pub placed_text : Place → List ℕ
 placed_text place = reply_text (Placed (place_view place))

@@ -1,4 +1,12 @@
 //! A session: answers the lines of a script, one after another.
+//!
+//! A session holds named inputs, each a solid of 2 to 6 dimensions. `input` makes one without cells, `toggle`, `add` and `cut`
+//! change one by a box, and `show`, `content`, `boundary`, `at` and `point` ask about one. The contracts speak of a session as
+//! a scene of `evm_model`, whose `step` says for each scene and line what the reply is and what the scene is after it: the
+//! vertices, measures and places there are those of sets of unit cells.
+//!
+//! All that can fail comes before a session changes: the new solid is made and the reply is written first. A line takes memory
+//! for its words, for one solid and what makes it, and for its reply, at most 8 bytes a coordinate of `show`.
 #![tactic(auto)]
 
 ghost use Rattle.std.specs.Prelude.{◌≡◌, IfOk};
@@ -21,7 +29,7 @@ use answers::answer;
 pub use evm_rows::NoMemory;
 use inputs::Inputs;
 
-/// The named solids that the lines so far have made.
+/// The inputs that the lines so far have made, in their order. Contracts see a scene.
 #[derive(Drop)]
 pub struct Session {
     inputs: Inputs,
@@ -36,9 +44,7 @@ impl Model for Session {
 }
 
 impl Session {
-    /// A session without names.
-    ///
-    /// Answers `NoMemory` for want of memory.
+    /// A session without names. The one error is want of memory.
     pub fn new(alloc: Global) -> Result<Session, NoMemory>
         ensures { IfOk result (λ made. made ≡ start) }
     {
@@ -47,9 +53,11 @@ impl Session {
         })
     }
 
-    /// Appends the reply to a line, and answers whether the reply does not begin with `no`.
+    /// Appends the reply to a line, which is without its LF, to `out`, and answers whether the reply does not begin with `no`.
     ///
-    /// A refused line leaves the session. After `NoMemory` the session and `out` are as before.
+    /// The reply and the session afterwards are those of `step`. A line that is too long, is no command or is refused by its
+    /// first cause has the reply `no CODE` and leaves the session. The one error is want of memory: after it the session and
+    /// `out` are as before.
     pub fn answer(
         &mut self,
         alloc: Global,
