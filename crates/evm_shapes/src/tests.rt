@@ -1,8 +1,7 @@
 ghost use Rattle.std.specs.Prelude.{◌≡◌, IfOk};
 
 use crate::{ShapeError, clip, lift, mirror, project, shift, slice, swap};
-use evm_boolean::or;
-use evm_rows::{NoMemory, Solid};
+use evm_rows::{NoMemory, Solid, xor};
 use std::alloc::Global;
 
 // Whether the solid has these rows.
@@ -32,6 +31,7 @@ fn turned(alloc: Global) -> Result<(bool, bool), NoMemory> {
 }
 
 // What is inside a box.
+#[tactic(auto, unfolding(evm_cells::specs::Limits::limit, evm_cells::specs::Limits::is_point, evm_cells::specs::Limits::is_point_coord, evm_cells::specs::Limits::is_cell_coord, evm_cells::specs::Places::each, evm_cells::specs::Shapes::is_shift))]
 fn clipped(alloc: Global) -> Result<bool, NoMemory> {
     let a = two_cells(alloc)?;
     let right = clip(alloc, a.rows(), &[1, 0], &[5, 5])?;
@@ -39,6 +39,7 @@ fn clipped(alloc: Global) -> Result<bool, NoMemory> {
 }
 
 // A prism, a section of it and its projection.
+#[tactic(auto, unfolding(evm_cells::specs::Limits::limit, evm_cells::specs::Limits::is_point, evm_cells::specs::Limits::is_point_coord, evm_cells::specs::Limits::is_cell_coord, evm_cells::specs::Places::each, evm_cells::specs::Shapes::is_shift))]
 fn raised(alloc: Global) -> Result<(bool, bool, bool), NoMemory> {
     let a = two_cells(alloc)?;
     let prism = lift(alloc, a.rows(), 3, 4, 6)?;
@@ -58,6 +59,7 @@ fn raised(alloc: Global) -> Result<(bool, bool, bool), NoMemory> {
 }
 
 // The projection of two cells, one above the other, and the section between them.
+#[tactic(auto, unfolding(evm_cells::specs::Limits::limit, evm_cells::specs::Limits::is_point, evm_cells::specs::Limits::is_point_coord, evm_cells::specs::Limits::is_cell_coord, evm_cells::specs::Places::each, evm_cells::specs::Shapes::is_shift))]
 fn stacked(alloc: Global) -> Result<(bool, bool), NoMemory> {
     let (Ok(low), Ok(high)) = (
         Solid::of_box(alloc, &[0, 0, 0], &[1, 1, 1]),
@@ -65,7 +67,7 @@ fn stacked(alloc: Global) -> Result<(bool, bool), NoMemory> {
     ) else {
         return Err(NoMemory);
     };
-    let both = or(alloc, low.rows(), high.rows())?;
+    let both = xor(alloc, low.rows(), high.rows())?;
     let shadow = project(alloc, both.rows(), 3)?;
     let gap = slice(alloc, both.rows(), 3, 1)?;
     Ok((
@@ -75,6 +77,7 @@ fn stacked(alloc: Global) -> Result<(bool, bool), NoMemory> {
 }
 
 // A cell that is moved to the limit, and one that would leave it.
+#[tactic(auto, unfolding(evm_cells::specs::Limits::limit, evm_cells::specs::Limits::is_point, evm_cells::specs::Limits::is_point_coord, evm_cells::specs::Limits::is_cell_coord, evm_cells::specs::Places::each, evm_cells::specs::Shapes::is_shift))]
 fn moved(alloc: Global) -> Result<(bool, bool), NoMemory> {
     let a = two_cells(alloc)?;
     let far = shift(alloc, a.rows(), &[524_286, 0]);
