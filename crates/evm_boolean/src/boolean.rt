@@ -1,5 +1,5 @@
 // The recursion over sections.
-ghost use Rattle.std.specs.Prelude.{◌≡◌, ◌<◌, ◌≤◌, length, [], IfOk, IfSome};
+ghost use Rattle.std.specs.Prelude.{◌≡◌, ◌<◌, ◌≤◌, [], IfOk};
 ghost use Rattle.evm_cells.specs.Booleans.{or_cells, and_cells, sub_cells};
 ghost use Rattle.evm_cells.specs.Booleans as CellBooleans;
 ghost use Rattle.evm_cells.specs.Vertices.{cells};

@@ -3,7 +3,7 @@ ghost use Rattle.std.specs.Prelude.{◌≡◌, Bool, IfOk};
 ghost use Rattle.evm_cells.specs.Booleans.{xor};
 ghost use Rattle.evm_rows.specs.Rows.{combined_rows};
 ghost use Rattle.evm_rows.specs.View.{vertices_of};
-ghost use Rattle.evm_sections.specs.Couplets.{first_height, AreSingle};
+ghost use Rattle.evm_sections.specs.Couplets.{AreSingle};
 ghost use Rattle.evm_boolean.specs.Tower.{after, section_at, fills};
 ghost use Rattle.evm_sections.specs.Couplets.{mark};
 
