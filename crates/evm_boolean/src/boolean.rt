@@ -42,7 +42,7 @@ impl Op2 {
     }
 }
 
-// The lower of two heights.
+/// The lower of two heights.
 #[inline(always)]
 pub fn lower_of(x: Option<i32>, y: Option<i32>) -> Option<i32>
     ensures { result ≡ lower x y }
@@ -200,6 +200,7 @@ fn combine_into(
 /// The union: the cells of either view. Both have one dimension. Time, memory and the one error are those of [`combine`].
 pub fn or(alloc: Global, a: Rows<'_>, b: Rows<'_>) -> Result<Solid, NoMemory>
     requires { (vertices_of a).dim ≡ (vertices_of b).dim }
+    ensures dim { IfOk result (λ s. s.dim ≡ (vertices_of a.entry).dim) }
     ensures vertices { IfOk result (λ s. s ≡ or_vertices (vertices_of a.entry) (vertices_of b.entry)) }
     ensures cells { IfOk result (λ s. cells s.dim s.rows ≡ or_cells s.dim (cells s.dim (vertices_of a.entry).rows) (cells s.dim (vertices_of b.entry).rows)) }
 {
@@ -210,6 +211,7 @@ pub fn or(alloc: Global, a: Rows<'_>, b: Rows<'_>) -> Result<Solid, NoMemory>
 /// The intersection: the cells of both views. Both have one dimension. Time, memory and the one error are those of [`combine`].
 pub fn and(alloc: Global, a: Rows<'_>, b: Rows<'_>) -> Result<Solid, NoMemory>
     requires { (vertices_of a).dim ≡ (vertices_of b).dim }
+    ensures dim { IfOk result (λ s. s.dim ≡ (vertices_of a.entry).dim) }
     ensures vertices { IfOk result (λ s. s ≡ and_vertices (vertices_of a.entry) (vertices_of b.entry)) }
     ensures cells { IfOk result (λ s. cells s.dim s.rows ≡ and_cells s.dim (cells s.dim (vertices_of a.entry).rows) (cells s.dim (vertices_of b.entry).rows)) }
 {
@@ -221,6 +223,7 @@ pub fn and(alloc: Global, a: Rows<'_>, b: Rows<'_>) -> Result<Solid, NoMemory>
 /// error are those of [`combine`].
 pub fn sub(alloc: Global, a: Rows<'_>, b: Rows<'_>) -> Result<Solid, NoMemory>
     requires { (vertices_of a).dim ≡ (vertices_of b).dim }
+    ensures dim { IfOk result (λ s. s.dim ≡ (vertices_of a.entry).dim) }
     ensures vertices { IfOk result (λ s. s ≡ sub_vertices (vertices_of a.entry) (vertices_of b.entry)) }
     ensures cells { IfOk result (λ s. cells s.dim s.rows ≡ sub_cells s.dim (cells s.dim (vertices_of a.entry).rows) (cells s.dim (vertices_of b.entry).rows)) }
 {

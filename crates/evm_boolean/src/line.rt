@@ -15,7 +15,7 @@ use evm_sections::first_of;
 use std::alloc::AllocError;
 use std::marker::Model;
 
-// The vertices of a line that are left, and whether the place before them is filled.
+/// The vertices of a line that are left, and whether the place before them is filled.
 #[derive(Drop)]
 pub struct Line<'a> {
     flat: &'a [i32],
@@ -174,7 +174,7 @@ fn append_number(out: &mut Vec<i32>, at: i32, yes: bool) -> Result<(), AllocErro
     Ok(())
 }
 
-// Appends the rows, at a height, at which the Boolean of two lines changes where the lines change.
+/// Appends the rows, at a height, at which the Boolean of two lines changes where the lines change.
 pub fn append_gain(
     out: &mut Vec<i32>,
     op: Op2,
@@ -209,7 +209,7 @@ pub fn append_gain(
     Ok(())
 }
 
-// The line after a change, in the room of a list that is done with.
+/// The line after a change, in the room of a list that is done with.
 pub fn changed(room: Vec<i32>, line: &[i32], change: Rows<'_>) -> Result<Vec<i32>, AllocError>
     requires line { AreRows line.now 1 0 }
     requires change { (vertices_of change).dim ≡ 1 }

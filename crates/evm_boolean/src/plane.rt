@@ -61,7 +61,7 @@ fn line_after(
     Ok((next, line))
 }
 
-// The Boolean of two views of dimension 2, in the room of a solid that is done with.
+/// The Boolean of two views of dimension 2, in the room of a solid that is done with.
 pub fn combine_planes(
     alloc: Global,
     op: Op2,

@@ -41,7 +41,7 @@ fn append_under(
     Ok(())
 }
 
-// Appends the rows at which two sections differ, each with the height before it.
+/// Appends the rows at which two sections differ, each with the height before it.
 pub fn append_couplet(
     out: &mut Vec<i32>,
     height: i32,
@@ -76,7 +76,7 @@ pub fn append_couplet(
     Ok(())
 }
 
-// Appends the height, if `yes`.
+/// Appends the height, if `yes`.
 pub fn append_mark(out: &mut Vec<i32>, height: i32, yes: bool) -> Result<(), AllocError>
     ensures { OnOk result (out.new.items ≡ out.old.items ++ flat_of (under height (mark yes))) }
 {

@@ -88,7 +88,7 @@ fn append_moved(out: &mut Vec<i32>, row: &[i32], step: Move) -> Result<(), Alloc
     }
 }
 
-// Appends each row of a view, moved.
+/// Appends each row of a view, moved.
 pub(crate) fn append_all_moved(
     out: &mut Vec<i32>,
     a: Rows<'_>,

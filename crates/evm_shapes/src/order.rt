@@ -48,8 +48,8 @@ fn append_unpaired(out: &mut Vec<i32>, rows: &[&[i32]]) -> Result<(), AllocError
     Ok(())
 }
 
-// The rows of `flat` that occur an odd number of times, ascending. Takes memory for a reference a row, as much again to
-// sort them, and for the answer.
+/// The rows of `flat` that occur an odd number of times, ascending. Takes memory for a reference a row, as much again to
+/// sort them, and for the answer.
 pub(crate) fn reduced(alloc: Global, flat: &[i32], width: usize) -> Result<Vec<i32>, AllocError>
     requires some { 0 < width }
     requires narrow { width ≤ 6 }
