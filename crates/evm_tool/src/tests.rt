@@ -89,7 +89,7 @@ fn boxes_are_added_and_measured(rt: HostRuntime) -> Result<(), Fail> {
 }
 
 /// Scripts of which some lines are refused, and the replies.
-const REFUSED: [(&str, &str); 2] = [
+const REFUSED: [(&str, &str); 3] = [
     (
         "input a 2 / add a 0 0 2 2 / add zz 5 5 1 1 / input a 7 / input z 7 / add a 0 0 0 1 1 1 / add a 0 0 0 1 / add a 524288 0 524289 1 / fly a / add a 0 0 1 12345678901 / content a",
         "ok 0 / ok 1 / no name / no taken / no dim / no dim / no range / no range / no syntax / no syntax / ok 4",
@@ -97,6 +97,10 @@ const REFUSED: [(&str, &str); 2] = [
     (
         "input a 2 / toggle a 0 0 2 2 / point a 1 1 / point a 1 0 / point a 3 3 / at a 1 1 / at a 2 2 / at a 9999999999 0 / toggle a 1 1 3 3 / at a 1 1 / point a 2 2",
         "ok 0 / ok 1 / ok inside / ok boundary / ok outside / ok filled / ok empty / no range / ok 1 / ok empty / ok boundary",
+    ),
+    (
+        "input a 2 / input\ta\t3 / - / show - / add a - 0 1 1 / add a -- 0 1 1 / add a --1 0 1 1 / add a +1 0 2 2 / show a\0 / \0 / show \u{e9} / input abcdefghijklmnopqrstuvwxyz0123456 2 / input abcdefghijklmnopqrstuvwxyz012345 2 / show 1a / show A / add a 00000000001 0 2 2 / add a 1 2 3 4 5 6 7 8 9 10 11 12 13 / add a 0 0 1 1 x / input b 2 2 / show / show a",
+        "ok 0 / no taken / no syntax / no syntax / no syntax / no syntax / no syntax / no syntax / no syntax / no syntax / no syntax / no syntax / ok 0 / no syntax / no syntax / no syntax / no syntax / no syntax / no syntax / no syntax / ok 2 0",
     ),
 ];
 
@@ -138,6 +142,28 @@ fn empty_lines_and_comments_have_no_reply_and_line_ends_may_vary(
             "at {script:?}"
         );
         assert_eq!(rt; status, Status::Done, "at {script:?}");
+    }
+    Ok(())
+}
+
+#[test]
+fn a_line_may_have_4096_bytes_beside_its_end(rt: HostRuntime) -> Result<(), Fail> {
+    let alloc = rt.alloc();
+    let lines = [
+        (4096, "\n", ""),
+        (4096, "\r\n", ""),
+        (4097, "\n", "no line\n"),
+        (4096, "\r\r\n", "no line\n"),
+    ];
+    for (count, end, reply) in lines {
+        let mut script = spaces(alloc, count)?;
+        script.extend_from_slice(end.as_bytes())?;
+        let (_, output) = run(alloc, script)?;
+        assert_eq!(rt;
+            str::from_utf8(output.bytes()),
+            Ok(reply),
+            "at {count} and {end:?}"
+        );
     }
     Ok(())
 }
