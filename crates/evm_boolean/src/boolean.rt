@@ -91,7 +91,7 @@ fn own_into(room: Solid, a: Rows<'_>) -> Result<Solid, NoMemory>
 }
 
 // No rows, in the room of a solid that is done with.
-fn emptied(room: Solid, dim: usize) -> Solid
+pub fn emptied(room: Solid, dim: usize) -> Solid
     requires low { 0 < dim }
     requires high { dim ≤ 6 }
     ensures dim { result.dim ≡ dim }
@@ -100,6 +100,27 @@ fn emptied(room: Solid, dim: usize) -> Solid
     let mut flat = room.into_flat();
     flat.clear();
     Solid::from_rows(dim, flat)
+}
+
+// A solid without rows, in a room that is done with where there is one.
+pub fn taken(alloc: Global, rooms: &mut Vec<Solid>, dim: usize) -> Solid
+    requires low { 0 < dim }
+    requires high { dim ≤ 6 }
+    ensures dim { result.dim ≡ dim }
+    ensures rows { result.rows ≡ [] }
+{
+    match rooms.pop() {
+        Some(room) => emptied(room, dim),
+        None => Solid::empty(alloc, dim),
+    }
+}
+
+// Keeps rooms that are done with.
+fn give_back(rooms: &mut Vec<Solid>, done: [Solid; 5]) -> Result<(), NoMemory> {
+    for room in done {
+        rooms.push(room)?;
+    }
+    Ok(())
 }
 
 // The Boolean of a view without rows and another view.
@@ -135,7 +156,8 @@ fn of_left(op: Op2, a: Rows<'_>, room: Solid) -> Result<Solid, NoMemory>
 /// dimensions it costs a Boolean of the two sections.
 ///
 /// The answer is one flat list of `i32` that grows. Each level of the recursion holds five flat lists more, which are used
-/// again for later heights and allocate only while they grow. No couplet is copied. The one error is want of memory.
+/// again for later heights and by later calls of the same depth, and allocate only while they grow. No couplet is copied. The
+/// one error is want of memory.
 pub fn combine(alloc: Global, op: Op2, a: Rows<'_>, b: Rows<'_>) -> Result<Solid, NoMemory>
     requires { (vertices_of a).dim ≡ (vertices_of b).dim }
     ensures dim { IfOk result (λ s. s.dim ≡ (vertices_of a.entry).dim) }
@@ -143,17 +165,19 @@ pub fn combine(alloc: Global, op: Op2, a: Rows<'_>, b: Rows<'_>) -> Result<Solid
     ensures cells { IfOk result (λ s. cells s.dim s.rows ≡ CellBooleans.combine (fills op) s.dim (cells s.dim (vertices_of a.entry).rows) (cells s.dim (vertices_of b.entry).rows)) }
 {
     let room = Solid::empty(alloc, 1);
-    let solid = combine_into(alloc, op, a, b, room)?;
+    let mut rooms = Vec::new(alloc);
+    let solid = combine_into(alloc, op, a, b, room, &mut rooms)?;
     Ok(solid)
 }
 
-// The Boolean of two views, in the room of a solid that is done with.
+// The Boolean of two views, in the room of a solid that is done with. It takes further rooms from `rooms` and gives them back.
 fn combine_into(
     alloc: Global,
     op: Op2,
     a: Rows<'_>,
     b: Rows<'_>,
     room: Solid,
+    rooms: &mut Vec<Solid>,
 ) -> Result<Solid, NoMemory>
     requires { (vertices_of a).dim ≡ (vertices_of b).dim }
     ensures dim { IfOk result (λ s. s.dim ≡ (vertices_of a.entry).dim) }
@@ -172,15 +196,15 @@ fn combine_into(
         return combine_runs(op, a, b, room);
     }
     if dim == 2 {
-        return combine_planes(alloc, op, a, b, room);
+        return combine_planes(alloc, op, a, b, room, rooms);
     }
     let mut left = Walk::of(a);
     let mut right = Walk::of(b);
-    let mut below_a = Solid::empty(alloc, dim - 1);
-    let mut below_b = Solid::empty(alloc, dim - 1);
-    let mut below = Solid::empty(alloc, dim - 1);
-    let mut spare = Solid::empty(alloc, dim - 1);
-    let mut other = Solid::empty(alloc, dim - 1);
+    let mut below_a = taken(alloc, rooms, dim - 1);
+    let mut below_b = taken(alloc, rooms, dim - 1);
+    let mut below = taken(alloc, rooms, dim - 1);
+    let mut spare = taken(alloc, rooms, dim - 1);
+    let mut other = taken(alloc, rooms, dim - 1);
     let mut out = room.into_flat();
     out.clear();
     while let Some(height) = lower_of(left.height(), right.height()) {
@@ -188,12 +212,13 @@ fn combine_into(
         below_a = next_a;
         let (next_b, old_b) = advance(&mut right, height, below_b, old_a)?;
         below_b = next_b;
-        let above = combine_into(alloc, op, below_a.rows(), below_b.rows(), other)?;
+        let above = combine_into(alloc, op, below_a.rows(), below_b.rows(), other, rooms)?;
         append_couplet(&mut out, height, below.rows(), above.rows())?;
         spare = old_b;
         other = below;
         below = above;
     }
+    give_back(rooms, [below_a, below_b, below, spare, other])?;
     Ok(Solid::from_rows(dim, out))
 }
 

@@ -5,7 +5,7 @@ ghost use Rattle.evm_rows.specs.Rows.{AreRows, rows_of, xor_rows, combined_rows}
 ghost use Rattle.evm_rows.specs.View.{vertices_of};
 ghost use Rattle.evm_boolean.specs.Tower.{after, couplet_here, fills};
 
-use crate::boolean::{Op2, lower_of};
+use crate::boolean::{Op2, lower_of, taken};
 use crate::line::{append_gain, changed};
 use evm_rows::{NoMemory, Rows, Solid};
 use evm_sections::Walk;
@@ -61,13 +61,33 @@ fn line_after(
     Ok((next, line))
 }
 
-/// The Boolean of two views of dimension 2, in the room of a solid that is done with.
+// A line without ends, in a room that is done with where there is one.
+fn taken_line(alloc: Global, rooms: &mut Vec<Solid>) -> Vec<i32>
+    ensures are_rows { AreRows result.items 1 0 }
+    ensures rows { rows_of result.items 1 0 ≡ [] }
+{
+    taken(alloc, rooms, 1).into_flat()
+}
+
+// Keeps two lines that are done with, and a room.
+fn give_back(rooms: &mut Vec<Solid>, line_a: Vec<i32>, line_b: Vec<i32>) -> Result<(), NoMemory>
+    requires first { AreRows line_a.items 1 0 }
+    requires second { AreRows line_b.items 1 0 }
+{
+    rooms.push(Solid::from_rows(1, line_a))?;
+    rooms.push(Solid::from_rows(1, line_b))?;
+    Ok(())
+}
+
+/// The Boolean of two views of dimension 2, in the room of a solid that is done with. It takes further rooms from `rooms`
+/// and gives them back.
 pub fn combine_planes(
     alloc: Global,
     op: Op2,
     a: Rows<'_>,
     b: Rows<'_>,
     room: Solid,
+    rooms: &mut Vec<Solid>,
 ) -> Result<Solid, NoMemory>
     requires left { (vertices_of a).dim ≡ 2 }
     requires right { (vertices_of b).dim ≡ 2 }
@@ -78,9 +98,9 @@ pub fn combine_planes(
     let none_b = none_of(b);
     let mut left = Walk::of(a);
     let mut right = Walk::of(b);
-    let mut line_a = Vec::new(alloc);
-    let mut line_b = Vec::new(alloc);
-    let mut spare = Vec::new(alloc);
+    let mut line_a = taken_line(alloc, rooms);
+    let mut line_b = taken_line(alloc, rooms);
+    let mut spare = taken_line(alloc, rooms);
     let mut out = room.into_flat();
     out.clear();
     while let Some(height) = lower_of(left.height(), right.height()) {
@@ -93,5 +113,6 @@ pub fn combine_planes(
         line_b = next_b;
         spare = old_b;
     }
+    give_back(rooms, line_a, line_b)?;
     Ok(Solid::from_rows(2, out))
 }

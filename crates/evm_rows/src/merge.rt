@@ -33,7 +33,8 @@ pub fn split_row(flat: &[i32], width: usize, skip: usize) -> (&[i32], &[i32])
 
 /// Appends the rows of flat numbers to `out`: each run of `width` numbers without its first `skip`.
 ///
-/// Takes memory only where `out` has no room left. After want of memory `out` may have some of the rows.
+/// Where nothing is left out of a row they are copied as one. Takes memory only where `out` has no room left. After want
+/// of memory `out` may have some of the rows.
 pub fn append_rows(
     out: &mut Vec<i32>,
     flat: &[i32],
@@ -45,6 +46,10 @@ pub fn append_rows(
     requires whole { length flat.now % width ≡ 0 }
     ensures { OnOk result (out.new.items ≡ out.old.items ++ flat_of (rows_of flat.now width skip)) }
 {
+    if skip == 0 {
+        out.extend_from_slice(flat)?;
+        return Ok(());
+    }
     let mut left = flat;
     while left.len() != 0 {
         let (row, rest) = split_row(left, width, skip);

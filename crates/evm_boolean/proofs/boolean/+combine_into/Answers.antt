@@ -69,10 +69,10 @@ loop-height-init t c =
       dim_is = c.dim-dim.ensures;
       left_dim = omega (arith, c.of-left.ensures.dim, c.dim-dim.ensures);
       right_dim = omega (arith, c.of-right.ensures.dim, c.dim-dim.ensures, c.requires);
-      a_dim = omega (arith, c.empty-below_a.ensures.dim, deep);
-      b_dim = omega (arith, c.empty-below_b.ensures.dim, deep);
-      below_dim = omega (arith, c.empty-below.ensures.dim, deep);
-      so_far = rw (c.clear.ensures.items, c.empty-below_a.ensures.rows, c.empty-below_b.ensures.rows, c.empty-below.ensures.rows)
+      a_dim = omega (arith, c.taken-below_a.ensures.dim, deep);
+      b_dim = omega (arith, c.taken-below_b.ensures.dim, deep);
+      below_dim = omega (arith, c.taken-below.ensures.dim, deep);
+      so_far = rw (c.clear.ensures.items, c.taken-below_a.ensures.rows, c.taken-below_b.ensures.rows, c.taken-below.ensures.rows)
           (ap flat_of (tower_is_at (fills c.args.op) c.dim-dim.result (c.dim-dim.result - 1) (rows_of a.flat.now a.width a.skip) (rows_of b.flat.now b.width b.skip) c.of-left.result.left c.of-right.result.left
           (omega arith) (fills-none c.args.op) v w c.of-left.ensures.left c.of-right.ensures.left));
     }

@@ -3,7 +3,6 @@ use mir.Val.{SFits}
 use Rattle.evm_cells.specs.Vertices.{IsVertexList}
 use Rattle.evm_rows.specs.Rows.{rows_of, flat_of, xor_rows, combined_rows}
 use Rattle.evm_rows.specs.View.{vertices_of}
-use Rattle.evm_rows.proofs.RowsLaws.{rows_of-nil}
 use Rattle.evm_sections.specs.Couplets.{first_height}
 use Rattle.evm_sections.proofs.Bits.{same32}
 use Rattle.evm_boolean.specs.Tower.{lower, after, section_at, couplet_here, under, fills}
@@ -11,7 +10,6 @@ use Rattle.evm_boolean.proofs.Cuts.{cuts-fall}
 use Rattle.evm_boolean.proofs.TowerCells.{tower_is_at, fills-none, op-both_none, section-here}
 use Rattle.evm_boolean.proofs.TowerSteps.{tower_more, tower_done}
 use Rattle.evm_boolean.proofs.Answer.{answer_rows, answer_is}
-use Rattle.evm_boolean.proofs.LineSteps.{none_rows}
 use Rattle.evm_boolean.proofs.plane.combine_planes.Goals as goal
 
 pub loop-height-init : goal.loop-height-init
@@ -23,9 +21,9 @@ loop-height-init c =
     record {
       left_dim = omega (arith, c.of-left.ensures.dim, c.requires.left);
       right_dim = omega (arith, c.of-right.ensures.dim, c.requires.right);
-      a_is = none_rows c.new-line_a.result.items (ap length c.new-line_a.ensures.items);
-      b_is = none_rows c.new-line_b.result.items (ap length c.new-line_b.ensures.items);
-      so_far = rw (c.clear.ensures.items, c.new-line_a.ensures.items, c.new-line_b.ensures.items, rows_of-nil 1 0, op-both_none (fills c.args.op) 1 (fills-none c.args.op))
+      a_is = c.taken_line-line_a.ensures.are_rows;
+      b_is = c.taken_line-line_b.ensures.are_rows;
+      so_far = rw (c.clear.ensures.items, c.taken_line-line_a.ensures.rows, c.taken_line-line_b.ensures.rows, op-both_none (fills c.args.op) 1 (fills-none c.args.op))
           (ap flat_of (tower_is_at (fills c.args.op) 2 1 (rows_of a.flat.now a.width a.skip) (rows_of b.flat.now b.width b.skip) c.of-left.result.left c.of-right.result.left
           refl (fills-none c.args.op) v w c.of-left.ensures.left c.of-right.ensures.left));
     }
