@@ -1,7 +1,8 @@
--- What the contracts see of an adapter: the reader or writer of std in it, and its count of faults.
+-- What the contracts see of an adapter: the reader, the writer or the files of std in it, and its counts.
 use Rattle.std.specs.Prelude.{ℕ}
 use Rattle.evm_outside.specs.declared.adapters.StdSource.{StdSource}
 use Rattle.evm_outside.specs.declared.adapters.StdSink.{StdSink}
+use Rattle.evm_outside.specs.declared.folder.FolderShelf.{FolderShelf}
 
 -- the reader that a source reads from
 abbrev pub reader_of : {R : Type 0} → StdSource R → R
@@ -18,3 +19,15 @@ writer_of sink = sink.writer
 -- how many writes failed
 abbrev pub write_faults : {W : Type 0} → StdSink W → ℕ
 write_faults sink = sink.faults
+
+-- the files that a shelf is over
+abbrev pub files_of_folder : {R : Type 0} → FolderShelf R → R
+files_of_folder shelf = shelf.rt
+
+-- how many calls failed
+abbrev pub folder_faults : {R : Type 0} → FolderShelf R → ℕ
+folder_faults shelf = shelf.faults
+
+-- how many fetches found no file
+abbrev pub folder_misses : {R : Type 0} → FolderShelf R → ℕ
+folder_misses shelf = shelf.misses

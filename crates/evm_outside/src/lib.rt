@@ -1,12 +1,17 @@
 //! Where bytes come from and go to: traits that count their faults, fakes in memory, and adapters over std.
 //!
-//! The engine is generic over a [`Source`] and a [`Sink`], so that what it reads and writes can be stated of
-//! any of them. [`MemSource`] and [`MemSink`] tell all of their bytes and fail where they are told to;
-//! [`StdSource`] and [`StdSink`] stand over a reader and a writer of std.
+//! The engine is generic over a [`Source`], a [`Sink`] and a [`Shelf`] of files, so that what it reads and writes can
+//! be stated of any of them. [`MemSource`], [`MemSink`] and [`MemShelf`] tell all of their bytes and fail where they
+//! are told to; [`StdSource`] and [`StdSink`] stand over a reader and a writer of std, and [`FolderShelf`] over the
+//! current folder.
 #![tactic(auto)]
 
 mod adapters;
 mod fakes;
+mod folder;
+mod mem_shelf;
+mod shelf;
+mod table;
 #[cfg(test)]
 mod tests;
 
@@ -18,6 +23,9 @@ ghost use Rattle.evm_outside.specs.Causes.{HasCause, TakesSome};
 
 pub use adapters::{StdSink, StdSource};
 pub use fakes::{MemSink, MemSource};
+pub use folder::FolderShelf;
+pub use mem_shelf::MemShelf;
+pub use shelf::{FILE_MAX, FILE_NAME_MAX, FetchError, PlaceError, Shelf, is_file_name};
 
 /// A device failed in this call, and its count of faults rose.
 #[derive(Clone, Copy, Debug, PartialEq, Eq)]

@@ -1,8 +1,11 @@
 //! Each fake and each adapter where all goes well, and at a call that fails.
 
-use super::{Failed, MemSink, MemSource, Sink, Source, StdSink, StdSource};
-use std::io;
+use super::{
+    Failed, FetchError, FolderShelf, MemShelf, MemSink, MemSource, PlaceError, Shelf, Sink, Source,
+    StdSink, StdSource, is_file_name,
+};
 use std::test::Fail;
+use std::{fs, io};
 
 #[test]
 fn a_source_in_memory_gives_pieces_and_fails_at_its_number(rt: HostRuntime) -> Result<(), Fail> {
@@ -69,4 +72,77 @@ impl io::Write for Stuck {
 fn a_failed_flush_is_a_fault(rt: HostRuntime) {
     let mut sink = StdSink::new(Stuck);
     assert_eq!(rt; sink.write(b"ab"), Err(Failed));
+}
+
+#[test]
+fn a_shelf_in_memory_keeps_files_and_fails_at_its_number(rt: HostRuntime) -> Result<(), Fail> {
+    let alloc = rt.alloc();
+    let mut shelf = MemShelf::new(alloc, vec![in alloc; 1u64, 4]?);
+    shelf.put(alloc, b"a.evm", b"first")?;
+    assert_eq!(rt;
+        shelf.fetch(alloc, b"a.evm")?.as_slice(),
+        b"first".as_slice()
+    );
+    assert_eq!(rt;
+        shelf.place(alloc, b"a.evm", b"second"),
+        Err(PlaceError::Failed)
+    );
+    assert_eq!(rt; shelf.get(b"a.evm"), Some(b"first".as_slice()));
+    assert_eq!(rt; shelf.place(alloc, b"a.evm", b"second"), Ok(()));
+    assert_eq!(rt; shelf.place(alloc, b"_b-1", b""), Ok(()));
+    assert_eq!(rt;
+        shelf.fetch(alloc, b"a.evm").err(),
+        Some(FetchError::Failed)
+    );
+    assert_eq!(rt; shelf.fetch(alloc, b"c").err(), Some(FetchError::Missing));
+    assert_eq!(rt;
+        shelf.fetch(alloc, b"a.evm")?.as_slice(),
+        b"second".as_slice()
+    );
+    assert_eq!(rt; shelf.get(b"_b-1"), Some(b"".as_slice()));
+    assert_eq!(rt; shelf.get(b"c"), None);
+    Ok(())
+}
+
+#[test]
+fn a_folder_is_a_shelf(rt: HostRuntime) -> Result<(), Fail> {
+    let alloc = rt.alloc();
+    let mut shelf = FolderShelf::new(&rt);
+    assert_eq!(rt;
+        shelf.fetch(alloc, b"a_folder_is_a_shelf.none").err(),
+        Some(FetchError::Missing)
+    );
+    assert_eq!(rt;
+        shelf.place(alloc, b"a_folder_is_a_shelf.file", b"first one"),
+        Ok(())
+    );
+    assert_eq!(rt;
+        shelf.place(alloc, b"a_folder_is_a_shelf.file", b"second"),
+        Ok(())
+    );
+    let bytes = shelf.fetch(alloc, b"a_folder_is_a_shelf.file");
+    fs::remove_file(&rt, "a_folder_is_a_shelf.file")?;
+    assert_eq!(rt; bytes?.as_slice(), b"second".as_slice());
+    fs::create_dir(&rt, "a_folder_is_a_shelf.sub")?;
+    let bytes = shelf.fetch(alloc, b"a_folder_is_a_shelf.sub");
+    fs::remove_dir(&rt, "a_folder_is_a_shelf.sub")?;
+    assert_eq!(rt; bytes.err(), Some(FetchError::Failed));
+    Ok(())
+}
+
+#[test]
+fn a_file_name_is_never_a_path(rt: HostRuntime) {
+    for (name, want) in [
+        (b"a".as_slice(), true),
+        (b"_A-z.09", true),
+        (b"", false),
+        (b".a", false),
+        (b"-a", false),
+        (b"a/b", false),
+        (b"a b", false),
+    ] {
+        assert_eq!(rt; is_file_name(name), want);
+    }
+    assert_eq!(rt; is_file_name(&[b'x'; 64]), true);
+    assert_eq!(rt; is_file_name(&[b'x'; 65]), false);
 }
