@@ -1,28 +1,44 @@
 -- Words with one space between each two, cut into words again.
 use Rattle.std.proofs.Common.{◌≡◌, ℕ, ◌+◌, ◌*◌, ◌<◌, ◌≤◌, Bool, true, false, not, ◌&&◌, List, [], ◌∷◌, ◌++◌, length, take, get_or, refl, sym, ◌∙◌, ap, arith, append_assoc, nat_eq, nat_lt, nat_le, if◌then◌else◌, length-append, inl, inr, map, ℤ, pos}
 use Rattle.std.specs.Prelude.{slice_index, ◌-◌}
-use Rattle.std.specs.List.{All, list_all, filter, slice_split}
+use Rattle.std.specs.List.{All, list_all, filter, flat_map, slice_split}
 use Rattle.std.proofs.lemmas.List.Sums.{AllPass-from_list_all}
 use Rattle.std.proofs.lemmas.List.Folds.{list_all-append}
 use Rattle.std.proofs.lemmas.List.Splits.{slice_split_none, slice_split_at}
 use Rattle.std.proofs.lemmas.Bool.{and_parts, and_from, le-ltb, leb-true, cases_lt}
 use Rattle.std.proofs.lemmas.Bool.Decides.{nat_tests}
-use Rattle.std.proofs.lemmas.List.{get_or_past, take_more, map-append}
+use Rattle.std.proofs.lemmas.List.{get_or_past, take_more, flat_map_more, append-nil}
 use Rattle.std.specs.Fmt.{signed_decimal}
 use Rattle.evm_script.specs.Words.{is_blank, words, without_cr, line_max}
-use Rattle.evm_script.specs.Printed.{spaced}
+use Rattle.evm_script.specs.Printed.{spaced, formula_words}
+use Rattle.evm_script.specs.declared.formula.Formula.{Formula}
+use Rattle.evm_script.specs.declared.formula.Formula.TheVariants as formulas
 
--- one word more at the end
-pub spaced_more : (x : List ℕ) (xs : List (List ℕ)) (w : List ℕ) → spaced ((x ∷ xs) ++ w ∷ []) ≡ spaced (x ∷ xs) ++ 32 ∷ w
-spaced_more x [] w = refl
-spaced_more x (y ∷ ys) w = ap (λ (t : List ℕ). x ++ 32 ∷ t) (spaced_more y ys w) ∙ sym (append_assoc x (32 ∷ spaced (y ∷ ys)) (32 ∷ w))
+-- one number more, with a space before it
+pub numbers_more : (text : List ℕ) (zs : List ℤ) (i : ℕ) → i < length zs → text ++ flat_map (λ n. 32 ∷ signed_decimal n) (take (i + 1) zs) ≡ (text ++ flat_map (λ n. 32 ∷ signed_decimal n) (take i zs)) ++ 32 ∷ signed_decimal (get_or zs i (pos 0))
+numbers_more text zs i h =
+    ap (λ (t : List ℤ). text ++ flat_map (λ n. 32 ∷ signed_decimal n) t) (take_more zs i (pos 0) h)
+    ∙ sym (flat_map_more (λ n. 32 ∷ signed_decimal n) text (take i zs) (get_or zs i (pos 0)))
 
--- one number more after two words
-pub numbers_more : (x y : List ℕ) (zs : List ℤ) (i : ℕ) → i < length zs → spaced (x ∷ y ∷ map signed_decimal (take (i + 1) zs)) ≡ spaced (x ∷ y ∷ map signed_decimal (take i zs)) ++ 32 ∷ signed_decimal (get_or zs i (pos 0))
-numbers_more x y zs i h =
-    ap (λ (t : List ℤ). spaced (x ∷ y ∷ map signed_decimal t)) (take_more zs i (pos 0) h)
-    ∙ ap (λ (t : List (List ℕ)). spaced (x ∷ y ∷ t)) (map-append signed_decimal (take i zs) (get_or zs i (pos 0) ∷ []))
-    ∙ spaced_more x (y ∷ map signed_decimal (take i zs)) (signed_decimal (get_or zs i (pos 0)))
+-- a word and numbers
+spaced_numbers : (w : List ℕ) (zs : List ℤ) → spaced (w ∷ map signed_decimal zs) ≡ w ++ flat_map (λ n. 32 ∷ signed_decimal n) zs
+spaced_numbers w [] = sym (append-nil w)
+spaced_numbers w (z ∷ zs) = ap (λ (t : List ℕ). w ++ 32 ∷ t) (spaced_numbers (signed_decimal z) zs)
+
+-- two words and numbers, appended to a text
+pub after_two : (text v w : List ℕ) (zs : List ℤ) → (text ++ (v ++ 32 ∷ w)) ++ flat_map (λ n. 32 ∷ signed_decimal n) zs ≡ text ++ spaced (v ∷ w ∷ map signed_decimal zs)
+after_two text v w zs =
+    append_assoc text (v ++ 32 ∷ w) (flat_map (λ n. 32 ∷ signed_decimal n) zs)
+    ∙ ap (λ (t : List ℕ). text ++ t) (append_assoc v (32 ∷ w) (flat_map (λ n. 32 ∷ signed_decimal n) zs))
+    ∙ ap (λ (t : List ℕ). text ++ (v ++ 32 ∷ t)) (sym (spaced_numbers w zs))
+
+-- a word and the words of a formula
+pub spaced_formula : (w : List ℕ) (f : Formula) → spaced (w ∷ formula_words f) ≡ w ++ 32 ∷ spaced (formula_words f)
+spaced_formula w (formulas.Or a b) = refl
+spaced_formula w (formulas.And a b) = refl
+spaced_formula w (formulas.Sub a b) = refl
+spaced_formula w (formulas.Xor a b) = refl
+spaced_formula w (formulas.Box dim nums) = refl
 
 -- a word without blanks and control bytes, of 1 to 64 bytes
 abbrev pub is_plain : List ℕ → Bool

@@ -1,46 +1,75 @@
--- The text of a command, and which commands a value of the crate's types can be.
-use Rattle.std.specs.Prelude.{ℕ, ◌≡◌, true, List, [], ◌∷◌, map, Ok, codes}
+-- The text of a command and of a formula, and which of them a value of the crate's types can be.
+use Rattle.std.specs.Prelude.{ℕ, ◌≡◌, true, List, [], ◌∷◌, map, Some, Ok, codes}
 use Rattle.std.specs.List.{join_with_byte}
 use Rattle.std.specs.Fmt.{signed_decimal}
-use Rattle.evm_script.specs.Words.{is_name, in_number_range, keeps_nums}
+use Rattle.evm_script.specs.Words.{words, is_name, in_number_range, keeps_nums}
+use Rattle.evm_script.specs.Formulas.{formula_of}
 use Rattle.evm_script.specs.Line.{command}
 use Rattle.evm_script.specs.declared.command.Command.{Command}
-use Rattle.evm_script.specs.declared.command.Command.TheVariants.{Blank, Input, Toggle, Add, Cut, Show, Content, Boundary, At, Point}
+use Rattle.evm_script.specs.declared.command.Command.TheVariants as commands
+use Rattle.evm_script.specs.declared.formula.Formula.{Formula}
+use Rattle.evm_script.specs.declared.formula.Formula.TheVariants as formulas
 
 -- words with one space between each two
 abbrev pub spaced : List (List ℕ) → List ℕ
 spaced = join_with_byte 32
 
+-- the words of a formula, as they stand after `def NAME`; each number in plain decimal
+abbrev pub formula_words : Formula → List (List ℕ)
+formula_words (formulas.Or a b) = codes "or" ∷ a ∷ b ∷ []
+formula_words (formulas.And a b) = codes "and" ∷ a ∷ b ∷ []
+formula_words (formulas.Sub a b) = codes "sub" ∷ a ∷ b ∷ []
+formula_words (formulas.Xor a b) = codes "xor" ∷ a ∷ b ∷ []
+formula_words (formulas.Box dim nums) = codes "box" ∷ signed_decimal dim ∷ map signed_decimal nums
+
 -- the words of a command, each number in plain decimal
 abbrev pub command_words : Command → List (List ℕ)
-command_words Blank = []
-command_words (Input name dim) = codes "input" ∷ name ∷ signed_decimal dim ∷ []
-command_words (Toggle name nums) = codes "toggle" ∷ name ∷ map signed_decimal nums
-command_words (Add name nums) = codes "add" ∷ name ∷ map signed_decimal nums
-command_words (Cut name nums) = codes "cut" ∷ name ∷ map signed_decimal nums
-command_words (Show name) = codes "show" ∷ name ∷ []
-command_words (Content name) = codes "content" ∷ name ∷ []
-command_words (Boundary name) = codes "boundary" ∷ name ∷ []
-command_words (At name nums) = codes "at" ∷ name ∷ map signed_decimal nums
-command_words (Point name nums) = codes "point" ∷ name ∷ map signed_decimal nums
+command_words commands.Blank = []
+command_words (commands.Input name dim) = codes "input" ∷ name ∷ signed_decimal dim ∷ []
+command_words (commands.Toggle name nums) = codes "toggle" ∷ name ∷ map signed_decimal nums
+command_words (commands.Add name nums) = codes "add" ∷ name ∷ map signed_decimal nums
+command_words (commands.Cut name nums) = codes "cut" ∷ name ∷ map signed_decimal nums
+command_words (commands.Def name formula) = codes "def" ∷ name ∷ formula_words formula
+command_words (commands.Drop name) = codes "drop" ∷ name ∷ []
+command_words (commands.Show name) = codes "show" ∷ name ∷ []
+command_words (commands.Content name) = codes "content" ∷ name ∷ []
+command_words (commands.Boundary name) = codes "boundary" ∷ name ∷ []
+command_words (commands.At name nums) = codes "at" ∷ name ∷ map signed_decimal nums
+command_words (commands.Point name nums) = codes "point" ∷ name ∷ map signed_decimal nums
+command_words commands.List = codes "list" ∷ []
 
 -- the text of a command, without a line feed
 abbrev pub printed : Command → List ℕ
 printed what = spaced (command_words what)
 
--- a command whose name and numbers keep their rules, as those of each value do
+-- a formula whose names and numbers keep their rules, as those of each value do
+abbrev pub FormulaKeepsRules : Formula → Type 0
+FormulaKeepsRules (formulas.Or a b) = (is_name a ≡ true) × (is_name b ≡ true)
+FormulaKeepsRules (formulas.And a b) = (is_name a ≡ true) × (is_name b ≡ true)
+FormulaKeepsRules (formulas.Sub a b) = (is_name a ≡ true) × (is_name b ≡ true)
+FormulaKeepsRules (formulas.Xor a b) = (is_name a ≡ true) × (is_name b ≡ true)
+FormulaKeepsRules (formulas.Box dim nums) = (in_number_range dim ≡ true) × (keeps_nums nums ≡ true)
+
+-- a command whose names and numbers keep their rules
 abbrev pub KeepsRules : Command → Type 0
-KeepsRules Blank = Unit {0}
-KeepsRules (Input name dim) = (is_name name ≡ true) × (in_number_range dim ≡ true)
-KeepsRules (Toggle name nums) = (is_name name ≡ true) × (keeps_nums nums ≡ true)
-KeepsRules (Add name nums) = (is_name name ≡ true) × (keeps_nums nums ≡ true)
-KeepsRules (Cut name nums) = (is_name name ≡ true) × (keeps_nums nums ≡ true)
-KeepsRules (Show name) = is_name name ≡ true
-KeepsRules (Content name) = is_name name ≡ true
-KeepsRules (Boundary name) = is_name name ≡ true
-KeepsRules (At name nums) = (is_name name ≡ true) × (keeps_nums nums ≡ true)
-KeepsRules (Point name nums) = (is_name name ≡ true) × (keeps_nums nums ≡ true)
+KeepsRules commands.Blank = Unit {0}
+KeepsRules (commands.Input name dim) = (is_name name ≡ true) × (in_number_range dim ≡ true)
+KeepsRules (commands.Toggle name nums) = (is_name name ≡ true) × (keeps_nums nums ≡ true)
+KeepsRules (commands.Add name nums) = (is_name name ≡ true) × (keeps_nums nums ≡ true)
+KeepsRules (commands.Cut name nums) = (is_name name ≡ true) × (keeps_nums nums ≡ true)
+KeepsRules (commands.Def name formula) = (is_name name ≡ true) × FormulaKeepsRules formula
+KeepsRules (commands.Drop name) = is_name name ≡ true
+KeepsRules (commands.Show name) = is_name name ≡ true
+KeepsRules (commands.Content name) = is_name name ≡ true
+KeepsRules (commands.Boundary name) = is_name name ≡ true
+KeepsRules (commands.At name nums) = (is_name name ≡ true) × (keeps_nums nums ≡ true)
+KeepsRules (commands.Point name nums) = (is_name name ≡ true) × (keeps_nums nums ≡ true)
+KeepsRules commands.List = Unit {0}
 
 -- a command's text is a line that is read as this command
 abbrev pub IsReadAgain : Command → Type 0
 IsReadAgain what = command (printed what) ≡ Ok what
+
+-- a formula's text has the words of this formula
+abbrev pub IsFormulaAgain : Formula → Type 0
+IsFormulaAgain what = formula_of (words (spaced (formula_words what))) ≡ Some what

@@ -29,6 +29,9 @@ fn reads_each_form(rt: HostRuntime) -> Result<(), Fail> {
             "point a_1 0 -9999999999 10",
             Ok(Command::Point { name, nums }),
         ),
+        ("drop a_1", Ok(Command::Drop { name })),
+        (" list ", Ok(Command::List)),
+        ("list a_1", Err(LineError::Syntax)),
         ("show A", Err(LineError::Syntax)),
         ("input a_1 00000000002", Err(LineError::Syntax)),
         (
@@ -43,6 +46,33 @@ fn reads_each_form(rt: HostRuntime) -> Result<(), Fail> {
 }
 
 #[test]
+fn reads_each_formula(rt: HostRuntime) -> Result<(), Fail> {
+    let name = Name::of(b"n").ok_or("name")?;
+    let a = Name::of(b"a").ok_or("name")?;
+    let b = Name::of(b"b2").ok_or("name")?;
+    let dim = Num::of(2).ok_or("number")?;
+    let nums = Nums::of(&[0, -1, 3, 4]).ok_or("numbers")?;
+    let cases = [
+        ("def n or a b2", Some(Formula::Or { a, b })),
+        ("def  n\tand a b2", Some(Formula::And { a, b })),
+        ("def n sub a b2", Some(Formula::Sub { a, b })),
+        ("def n xor a b2", Some(Formula::Xor { a, b })),
+        ("def n box 2 0 -1 3 4", Some(Formula::Box { dim, nums })),
+        ("def n box 0", None),
+        ("def n sub a", None),
+        ("def n sub a b2 a", None),
+        ("def n", None),
+        ("def n nor a b2", None),
+    ];
+    for (line, want) in cases {
+        let command = want.map(|formula| Command::Def { name, formula });
+        let want = command.ok_or(LineError::Syntax);
+        assert_eq!(rt; read_line(rt.alloc(), line.as_bytes()), want, "{line}");
+    }
+    Ok(())
+}
+
+#[test]
 fn prints_and_counts(rt: HostRuntime) -> Result<(), Fail> {
     let name = Name::of(b"a_1").ok_or("name")?;
     let nums = Nums::of(&[0, -9_999_999_999, 10]).ok_or("numbers")?;
@@ -51,6 +81,19 @@ fn prints_and_counts(rt: HostRuntime) -> Result<(), Fail> {
     assert_eq!(rt; text.as_slice(), b"toggle a_1 0 -9999999999 10".as_slice());
     let text = write_line(rt.alloc(), &Command::Input { name, dim })?;
     assert_eq!(rt; text.as_slice(), b"input a_1 2".as_slice());
+    let text = write_line(rt.alloc(), &Command::List)?;
+    assert_eq!(rt; text.as_slice(), b"list".as_slice());
+    let formula = Formula::Box { dim, nums };
+    let text = write_formula(rt.alloc(), &formula)?;
+    assert_eq!(rt; text.as_slice(), b"box 2 0 -9999999999 10".as_slice());
+    let text = write_line(rt.alloc(), &Command::Def { name, formula })?;
+    assert_eq!(rt;
+        text.as_slice(),
+        b"def a_1 box 2 0 -9999999999 10".as_slice()
+    );
+    let b = Name::of(b"b").ok_or("name")?;
+    let text = write_formula(rt.alloc(), &Formula::Sub { a: name, b })?;
+    assert_eq!(rt; text.as_slice(), b"sub a_1 b".as_slice());
     Ok(())
 }
 

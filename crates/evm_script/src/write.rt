@@ -1,20 +1,23 @@
-//! Prints a command as a line.
+//! Prints a command as a line, and a formula as its words.
 
-ghost use Rattle.std.specs.Prelude.{◌≡◌, ◌++◌, [], ◌∷◌, map, IfOk, OnOk, Ok, true};
-ghost use Rattle.std.specs.Fmt.{signed_decimal};
-ghost use Rattle.evm_script.specs.Words.{is_name, in_number_range, keeps_nums};
+ghost use Rattle.std.specs.Prelude.{◌≡◌, ◌++◌, ◌∷◌, IfOk, OnOk, Some, Ok, codes, true};
+ghost use Rattle.evm_script.specs.Words.{words, is_name};
+ghost use Rattle.evm_script.specs.Formulas.{formula_of};
 ghost use Rattle.evm_script.specs.Line.{command as line_command};
-ghost use Rattle.evm_script.specs.Printed.{printed, spaced, KeepsRules, IsReadAgain};
+ghost use Rattle.evm_script.specs.Printed.{printed, spaced, formula_words, FormulaKeepsRules, KeepsRules, IsReadAgain, IsFormulaAgain};
 ghost use Rattle.evm_script.specs.declared.command.Command as commands;
+ghost use Rattle.evm_script.specs.declared.formula.Formula as formulas;
 
 use super::command::{Command, NoMemory};
+use super::formula::Formula;
 use super::names::Name;
-use super::numbers::{Num, Nums};
+use super::texts::{
+    put_name, put_name_number, put_name_numbers, put_number_numbers, put_two_names, put_word,
+};
 use std::alloc::Global;
-use std::io::Write;
 
-/// Room for the text of each command: a name and twelve numbers take 183 bytes at most.
-const TEXT_ROOM: usize = 192;
+/// Room for the text of each command: the definition of a box takes the most, 196 bytes.
+const TEXT_ROOM: usize = 224;
 
 /// The line of a command, without a line feed: its words with one space between them, numbers in
 /// plain decimal without leading zeros. A blank line prints nothing.
@@ -28,78 +31,80 @@ pub fn write_line(alloc: Global, command: &Command) -> Result<Vec<u8>, NoMemory>
     ensures text { IfOk result (λ v. v.items ≡ printed command.now) }
     ensures back { IfOk result (λ v. line_command v.items ≡ Ok command.now) }
 {
-    text_of(alloc, command)
+    let mut text = Vec::with_capacity(alloc, TEXT_ROOM)?;
+    put_command(&mut text, command)?;
+    Ok(text)
 }
 
-/// The text of a command, whose name and numbers keep their rules.
-fn text_of(alloc: Global, command: &Command) -> Result<Vec<u8>, NoMemory>
-    ensures text { IfOk result (λ v. v.items ≡ printed command.now) }
-    ensures rules { KeepsRules command.now }
+/// The words of a formula with one space between them, as they stand after `def NAME `.
+///
+/// It takes memory for the text alone, reserved once.
+///
+/// # Errors
+///
+/// `NoMemory` where there is none for the text.
+pub fn write_formula(alloc: Global, formula: &Formula) -> Result<Vec<u8>, NoMemory>
+    ensures text { IfOk result (λ v. v.items ≡ spaced (formula_words formula.now)) }
+    ensures back { IfOk result (λ v. formula_of (words v.items) ≡ Some formula.now) }
+{
+    let mut text = Vec::with_capacity(alloc, TEXT_ROOM)?;
+    put_formula(&mut text, formula)?;
+    Ok(text)
+}
+
+/// Appends the text of a command, whose names and numbers keep their rules.
+fn put_command(text: &mut Vec<u8>, command: &Command) -> Result<(), NoMemory>
+    ensures text { OnOk result (text.new.items ≡ text.old.items ++ printed command.now) }
+    ensures rules { OnOk result (KeepsRules command.now) }
 {
     match command {
-        Command::Blank => Ok(Vec::new(alloc)),
-        Command::Input { name, dim } => with_number(alloc, b"input", name, dim),
-        Command::Toggle { name, nums } => with_numbers(alloc, b"toggle", name, nums),
-        Command::Add { name, nums } => with_numbers(alloc, b"add", name, nums),
-        Command::Cut { name, nums } => with_numbers(alloc, b"cut", name, nums),
-        Command::Show { name } => with_name(alloc, b"show", name),
-        Command::Content { name } => with_name(alloc, b"content", name),
-        Command::Boundary { name } => with_name(alloc, b"boundary", name),
-        Command::At { name, nums } => with_numbers(alloc, b"at", name, nums),
-        Command::Point { name, nums } => with_numbers(alloc, b"point", name, nums),
+        Command::Blank => Ok(()),
+        Command::Input { name, dim } => put_name_number(text, b"input", name, dim),
+        Command::Toggle { name, nums } => put_name_numbers(text, b"toggle", name, nums),
+        Command::Add { name, nums } => put_name_numbers(text, b"add", name, nums),
+        Command::Cut { name, nums } => put_name_numbers(text, b"cut", name, nums),
+        Command::Def { name, formula } => put_definition(text, name, formula),
+        Command::Drop { name } => put_name(text, b"drop", name),
+        Command::Show { name } => put_name(text, b"show", name),
+        Command::Content { name } => put_name(text, b"content", name),
+        Command::Boundary { name } => put_name(text, b"boundary", name),
+        Command::At { name, nums } => put_name_numbers(text, b"at", name, nums),
+        Command::Point { name, nums } => put_name_numbers(text, b"point", name, nums),
+        Command::List => put_word(text, b"list"),
     }
 }
 
-/// A first word and a name.
-fn with_name(alloc: Global, first: &[u8], name: &Name) -> Result<Vec<u8>, NoMemory>
-    ensures text { IfOk result (λ v. v.items ≡ spaced (first.now ∷ name.now ∷ [])) }
-    ensures rule { is_name name.now ≡ true }
+/// Appends the text of a definition.
+#[tactic(auto, using(crate::proofs::Spaced::spaced_formula))]
+fn put_definition(text: &mut Vec<u8>, name: &Name, formula: &Formula) -> Result<(), NoMemory>
+    ensures text { OnOk result (text.new.items ≡ text.old.items ++ spaced (codes "def" ∷ name.now ∷ formula_words formula.now)) }
+    ensures rule { OnOk result (is_name name.now ≡ true) }
+    ensures rules { OnOk result (FormulaKeepsRules formula.now) }
 {
-    let bytes = name.bytes();
-    let mut text = Vec::with_capacity(alloc, TEXT_ROOM)?;
-    text.extend_from_slice(first)?;
+    put_name(text, b"def", name)?;
     text.push(b' ')?;
-    text.extend_from_slice(bytes)?;
-    Ok(text)
+    put_formula(text, formula)
 }
 
-/// A first word, a name and a number.
-fn with_number(alloc: Global, first: &[u8], name: &Name, number: &Num) -> Result<Vec<u8>, NoMemory>
-    ensures text { IfOk result (λ v. v.items ≡ spaced (first.now ∷ name.now ∷ signed_decimal number.now ∷ [])) }
-    ensures rule { is_name name.now ≡ true }
-    ensures range { in_number_range number.now ≡ true }
+/// Appends the words of a formula, whose names and numbers keep their rules.
+fn put_formula(text: &mut Vec<u8>, formula: &Formula) -> Result<(), NoMemory>
+    ensures text { OnOk result (text.new.items ≡ text.old.items ++ spaced (formula_words formula.now)) }
+    ensures rules { OnOk result (FormulaKeepsRules formula.now) }
 {
-    let value = number.value();
-    let mut text = with_name(alloc, first, name)?;
-    put_number(&mut text, value)?;
-    Ok(text)
-}
-
-/// A first word, a name and a list of numbers.
-#[tactic(auto, using(crate::proofs::Spaced::numbers_more))]
-fn with_numbers(alloc: Global, first: &[u8], name: &Name, nums: &Nums) -> Result<Vec<u8>, NoMemory>
-    ensures text { IfOk result (λ v. v.items ≡ spaced (first.now ∷ name.now ∷ map signed_decimal nums.now)) }
-    ensures rule { is_name name.now ≡ true }
-    ensures range { keeps_nums nums.now ≡ true }
-{
-    let values = nums.values();
-    let mut text = with_name(alloc, first, name)?;
-    for value in values {
-        put_number(&mut text, *value)?;
+    match formula {
+        Formula::Or { a, b } => put_two_names(text, b"or", a, b),
+        Formula::And { a, b } => put_two_names(text, b"and", a, b),
+        Formula::Sub { a, b } => put_two_names(text, b"sub", a, b),
+        Formula::Xor { a, b } => put_two_names(text, b"xor", a, b),
+        Formula::Box { dim, nums } => put_number_numbers(text, b"box", dim, nums),
     }
-    Ok(text)
-}
-
-/// Appends a space and a number.
-fn put_number(text: &mut Vec<u8>, number: i64) -> Result<(), NoMemory>
-    ensures { OnOk result (text.new.items ≡ text.old.items ++ 32 ∷ signed_decimal number) }
-{
-    write!(text, " {number}").map_err(|_| NoMemory)
 }
 
 /// The law of printing, as a statement alone: the text of each command is a line that is read as
-/// this command, so that two commands with one text are one.
+/// this command, so that two commands with one text are one; and the words of each formula's text
+/// are read as this formula.
 pub fn printed_lines_are_read_again()
     ensures again { (c : commands.Command) → KeepsRules c → IsReadAgain c }
     ensures told_apart { (c d : commands.Command) → KeepsRules c → KeepsRules d → printed c ≡ printed d → c ≡ d }
+    ensures formulas { (f : formulas.Formula) → FormulaKeepsRules f → IsFormulaAgain f }
 {}

@@ -1,0 +1,67 @@
+-- Printed shapes are read again: names and numbers.
+use Rattle.std.proofs.Common.{◌≡◌, ℕ, ◌≤◌, Bool, true, ◌&&◌, List, [], ◌∷◌, length, map, refl, ◌∙◌, ap, arith, nat_lt, nat_le, ℤ, Option, Some, None, if◌then◌else◌}
+use Rattle.std.proofs.lemmas.List.{length-map}
+use Rattle.std.specs.Prelude.{slice_index}
+use Rattle.std.specs.Option.{option_zip}
+use Rattle.std.specs.Fmt.{signed_decimal}
+use Rattle.std.specs.List.{list_all}
+use Rattle.std.proofs.lemmas.Bool.{and_parts, and_from, leb-true, le-leb}
+use Rattle.std.proofs.lemmas.Bool.Decides.{nat_tests}
+use Rattle.evm_script.specs.Words.{is_name, is_name_byte, is_small_letter, in_number_range, keeps_nums, nums_max, name_max}
+use Rattle.evm_script.specs.Shapes.{name_of, name_number, name_numbers, two_names, number_numbers, numbers, some_numbers}
+use Rattle.evm_script.proofs.Spaced.{is_plain}
+use Rattle.evm_script.proofs.Decimals.{number_again, numbers_again, plain_numbers}
+
+-- names are plain words
+name_bytes_plain : (w : List ℕ) → list_all is_name_byte w ≡ true → list_all (nat_lt 32) w ≡ true
+name_bytes_plain [] h = refl
+name_bytes_plain (b ∷ w) h =
+    let both = and_parts (is_name_byte b) _ h in
+    let first = both.0 in
+    and_from (nat_lt 32 b) _ (grind (arith, nat_tests)) (name_bytes_plain w both.1)
+
+pub plain_name : (w : List ℕ) → is_name w ≡ true → is_plain w ≡ true
+plain_name w h =
+    let three = and_parts (nat_le 1 (length w) && nat_le (length w) name_max && is_small_letter (slice_index w 0)) _ h in
+    let two = and_parts (nat_le 1 (length w) && nat_le (length w) name_max) _ three.0 in
+    let sizes = and_parts (nat_le 1 (length w)) _ two.0 in
+    and_from (list_all (nat_lt 32) w) _ (name_bytes_plain w three.1)
+    (and_from (nat_le 1 (length w)) _ sizes.0 (le-leb (length w) 64 (omega (arith, leb-true (length w) 32 sizes.1))))
+
+-- plain words in front of plain words
+pub plain_more : (w : List ℕ) (ws : List (List ℕ)) → is_plain w ≡ true → list_all is_plain ws ≡ true → list_all is_plain (w ∷ ws) ≡ true
+plain_more w ws h k = and_from (is_plain w) _ h k
+
+-- numbers are plain words, and few
+nums_parts : (ns : List ℤ) → keeps_nums ns ≡ true → ((nat_le 1 (length ns) && nat_le (length ns) nums_max) ≡ true) × (list_all in_number_range ns ≡ true)
+nums_parts ns h = and_parts (nat_le 1 (length ns) && nat_le (length ns) nums_max) _ h
+
+pub plain_nums : (ns : List ℤ) → keeps_nums ns ≡ true → list_all is_plain (map signed_decimal ns) ≡ true
+plain_nums ns h = plain_numbers ns (nums_parts ns h).1
+
+pub few_nums : (ns : List ℤ) → keeps_nums ns ≡ true → length (map signed_decimal ns) ≤ 12
+few_nums ns h =
+    omega (arith, length-map ns signed_decimal, leb-true (length ns) nums_max (and_parts (nat_le 1 (length ns)) _ (nums_parts ns h).0).1)
+
+-- the shapes, read again
+pub name_again : (w : List ℕ) → is_name w ≡ true → name_of w ≡ Some w
+name_again w h = ap (λ (b : Bool). if b then Some w else None) h
+
+some_again : (ns : List ℤ) → keeps_nums ns ≡ true → some_numbers (numbers (map signed_decimal ns)) ≡ Some ns
+some_again ns h = ap some_numbers (numbers_again ns (nums_parts ns h).1) ∙ ap (λ (b : Bool). if b then Some ns else None) (nums_parts ns h).0
+
+-- two parts, each read again
+zip_again : {A B : Type 0} {o : Option A} {p : Option B} (a : A) (b : B) → o ≡ Some a → p ≡ Some b → option_zip o p ≡ Some (a, b)
+zip_again {p} a b h k = ap (λ o. option_zip o p) h ∙ ap (option_zip (Some a)) k
+
+pub name_number_again : (name : List ℕ) (n : ℤ) → is_name name ≡ true → in_number_range n ≡ true → name_number (name ∷ signed_decimal n ∷ []) ≡ Some (name, n)
+name_number_again name n h k = zip_again name n (name_again name h) (number_again n k)
+
+pub name_numbers_again : (name : List ℕ) (ns : List ℤ) → is_name name ≡ true → keeps_nums ns ≡ true → name_numbers (name ∷ map signed_decimal ns) ≡ Some (name, ns)
+name_numbers_again name ns h k = zip_again name ns (name_again name h) (some_again ns k)
+
+pub two_names_again : (a b : List ℕ) → is_name a ≡ true → is_name b ≡ true → two_names (a ∷ b ∷ []) ≡ Some (a, b)
+two_names_again a b h k = zip_again a b (name_again a h) (name_again b k)
+
+pub number_numbers_again : (n : ℤ) (ns : List ℤ) → in_number_range n ≡ true → keeps_nums ns ≡ true → number_numbers (signed_decimal n ∷ map signed_decimal ns) ≡ Some (n, ns)
+number_numbers_again n ns h k = zip_again n ns (number_again n h) (some_again ns k)

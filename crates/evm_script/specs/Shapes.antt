@@ -1,0 +1,67 @@
+-- Shapes of what follows the first word of a form: names and numbers, each a word.
+use Rattle.std.specs.Prelude.{ℕ, Bool, ◌&&◌, nat_le, if◌then◌else◌, List, [], ◌∷◌, length, Option, None, Some, ℤ, bytes_eq}
+use Rattle.std.specs.Option.{option_zip}
+use Rattle.evm_script.specs.Words.{nums_max, is_name, number}
+
+-- equal words
+abbrev pub same_bytes : List ℕ → List ℕ → Bool
+same_bytes = bytes_eq
+
+-- a word as a name
+abbrev pub name_of : List ℕ → Option (List ℕ)
+name_of word = if is_name word then Some word else None
+
+-- one number before others, where all are numbers
+abbrev pub cons_number : Option ℤ → Option (List ℤ) → Option (List ℤ)
+cons_number None rest = None
+cons_number (Some n) None = None
+cons_number (Some n) (Some ns) = Some (n ∷ ns)
+
+-- words as numbers, if each is one
+abbrev pub numbers : List (List ℕ) → Option (List ℤ)
+numbers [] = Some []
+numbers (word ∷ rest) = cons_number (number word) (numbers rest)
+
+-- one to twelve numbers
+abbrev pub some_numbers : Option (List ℤ) → Option (List ℤ)
+some_numbers None = None
+some_numbers (Some ns) = if nat_le 1 (length ns) && nat_le (length ns) nums_max then Some ns else None
+
+-- no further word
+abbrev pub alone : {A : Type 0} → A → List (List ℕ) → Option A
+alone made [] = Some made
+alone made (word ∷ rest) = None
+
+-- the shape `NAME`
+abbrev pub name_alone : List (List ℕ) → Option (List ℕ)
+name_alone [] = None
+name_alone (name ∷ []) = name_of name
+name_alone (name ∷ word ∷ rest) = None
+
+-- the shape `NAME N`
+abbrev pub name_number : List (List ℕ) → Option (List ℕ × ℤ)
+name_number [] = None
+name_number (name ∷ []) = None
+name_number (name ∷ n ∷ []) = option_zip (name_of name) (number n)
+name_number (name ∷ n ∷ word ∷ rest) = None
+
+-- the shape `NAME NUMS`
+abbrev pub name_numbers : List (List ℕ) → Option (List ℕ × List ℤ)
+name_numbers [] = None
+name_numbers (name ∷ nums) = option_zip (name_of name) (some_numbers (numbers nums))
+
+-- the shape `A B`
+abbrev pub two_names : List (List ℕ) → Option (List ℕ × List ℕ)
+two_names [] = None
+two_names (a ∷ []) = None
+two_names (a ∷ b ∷ []) = option_zip (name_of a) (name_of b)
+two_names (a ∷ b ∷ word ∷ rest) = None
+
+-- the shape `N NUMS`
+abbrev pub number_numbers : List (List ℕ) → Option (ℤ × List ℤ)
+number_numbers [] = None
+number_numbers (n ∷ nums) = option_zip (number n) (some_numbers (numbers nums))
+
+-- what two parts make
+abbrev pub of_pair : {A B C : Type 0} → (A → B → C) → A × B → C
+of_pair make parts = make parts.0 parts.1

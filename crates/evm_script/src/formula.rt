@@ -1,0 +1,56 @@
+//! Formulas.
+
+ghost use Rattle.std.specs.Prelude.{◌≡◌, map};
+ghost use Rattle.evm_script.specs.Formulas.{formula_of, formula_by};
+
+use super::names::Name;
+use super::numbers::{Num, Nums};
+use super::shapes::{is, number_then_numbers, two_names};
+
+/// A formula: how a solid is made of others, or of numbers.
+///
+/// Whether the names stand, and whether the dimension and the numbers fit, is for the scene to
+/// say.
+#[derive(Clone, Copy, Debug, PartialEq, Eq)]
+pub enum Formula {
+    /// `or A B`: the cells that are in one of the two solids or in both.
+    Or { a: Name, b: Name },
+    /// `and A B`: the cells that are in both.
+    And { a: Name, b: Name },
+    /// `sub A B`: the cells of the first that are not in the second.
+    Sub { a: Name, b: Name },
+    /// `xor A B`: the cells that are in exactly one of the two.
+    Xor { a: Name, b: Name },
+    /// `box DIM NUMS`: the cells of a box in this many dimensions, its lower corner first.
+    Box { dim: Num, nums: Nums },
+}
+
+/// The formula that the words after `def NAME` make.
+pub(crate) fn read_formula(words: &[&[u8]]) -> Option<Formula>
+    ensures { result ≡ formula_of (map (λ w. w.now) words.now) }
+{
+    match words {
+        [first, rest @ ..] => form(first, rest),
+        _ => None,
+    }
+}
+
+/// The formula that a first word and what follows it make.
+#[tactic(auto, unfolding(crate::specs::Formulas::formula_by))]
+fn form(first: &[u8], rest: &[&[u8]]) -> Option<Formula>
+    ensures { result ≡ formula_by first.now (map (λ w. w.now) rest.now) }
+{
+    if is(first, "or") {
+        two_names(rest).map(|(a, b)| Formula::Or { a, b })
+    } else if is(first, "and") {
+        two_names(rest).map(|(a, b)| Formula::And { a, b })
+    } else if is(first, "sub") {
+        two_names(rest).map(|(a, b)| Formula::Sub { a, b })
+    } else if is(first, "xor") {
+        two_names(rest).map(|(a, b)| Formula::Xor { a, b })
+    } else if is(first, "box") {
+        number_then_numbers(rest).map(|(dim, nums)| Formula::Box { dim, nums })
+    } else {
+        None
+    }
+}

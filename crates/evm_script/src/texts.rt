@@ -1,0 +1,125 @@
+//! Texts of words, appended with one space between each two.
+
+ghost use Rattle.std.specs.Prelude.{◌≡◌, ◌++◌, [], ◌∷◌, map, OnOk, true};
+ghost use Rattle.std.specs.List.{flat_map};
+ghost use Rattle.std.specs.Fmt.{signed_decimal};
+ghost use Rattle.evm_script.specs.Words.{is_name, in_number_range, keeps_nums};
+ghost use Rattle.evm_script.specs.Printed.{spaced};
+
+use super::command::NoMemory;
+use super::names::Name;
+use super::numbers::{Num, Nums};
+use std::io::Write;
+
+/// Appends a word.
+pub(crate) fn put_word(text: &mut Vec<u8>, word: &[u8]) -> Result<(), NoMemory>
+    ensures { OnOk result (text.new.items ≡ text.old.items ++ spaced (word.now ∷ [])) }
+{
+    text.extend_from_slice(word)?;
+    Ok(())
+}
+
+/// Appends a first word and a name.
+pub(crate) fn put_name(text: &mut Vec<u8>, first: &[u8], name: &Name) -> Result<(), NoMemory>
+    ensures text { OnOk result (text.new.items ≡ text.old.items ++ spaced (first.now ∷ name.now ∷ [])) }
+    ensures rule { OnOk result (is_name name.now ≡ true) }
+{
+    let bytes = name.bytes();
+    text.extend_from_slice(first)?;
+    text.push(b' ')?;
+    text.extend_from_slice(bytes)?;
+    Ok(())
+}
+
+/// Appends a first word, a name and a number.
+pub(crate) fn put_name_number(
+    text: &mut Vec<u8>,
+    first: &[u8],
+    name: &Name,
+    number: &Num,
+) -> Result<(), NoMemory>
+    ensures text { OnOk result (text.new.items ≡ text.old.items ++ spaced (first.now ∷ name.now ∷ signed_decimal number.now ∷ [])) }
+    ensures rule { OnOk result (is_name name.now ≡ true) }
+    ensures range { OnOk result (in_number_range number.now ≡ true) }
+{
+    let value = number.value();
+    put_name(text, first, name)?;
+    put_number(text, value)
+}
+
+/// Appends a first word, a name and a list of numbers.
+pub(crate) fn put_name_numbers(
+    text: &mut Vec<u8>,
+    first: &[u8],
+    name: &Name,
+    nums: &Nums,
+) -> Result<(), NoMemory>
+    ensures text { OnOk result (text.new.items ≡ text.old.items ++ spaced (first.now ∷ name.now ∷ map signed_decimal nums.now)) }
+    ensures rule { OnOk result (is_name name.now ≡ true) }
+    ensures range { OnOk result (keeps_nums nums.now ≡ true) }
+{
+    put_name(text, first, name)?;
+    put_numbers(text, nums)
+}
+
+/// Appends a first word and two names.
+pub(crate) fn put_two_names(
+    text: &mut Vec<u8>,
+    first: &[u8],
+    a: &Name,
+    b: &Name,
+) -> Result<(), NoMemory>
+    ensures text { OnOk result (text.new.items ≡ text.old.items ++ spaced (first.now ∷ a.now ∷ b.now ∷ [])) }
+    ensures rule_a { OnOk result (is_name a.now ≡ true) }
+    ensures rule_b { OnOk result (is_name b.now ≡ true) }
+{
+    let bytes = b.bytes();
+    put_name(text, first, a)?;
+    text.push(b' ')?;
+    text.extend_from_slice(bytes)?;
+    Ok(())
+}
+
+/// Appends a first word, a number and a list of numbers.
+pub(crate) fn put_number_numbers(
+    text: &mut Vec<u8>,
+    first: &[u8],
+    number: &Num,
+    nums: &Nums,
+) -> Result<(), NoMemory>
+    ensures text { OnOk result (text.new.items ≡ text.old.items ++ spaced (first.now ∷ signed_decimal number.now ∷ map signed_decimal nums.now)) }
+    ensures range { OnOk result (in_number_range number.now ≡ true) }
+    ensures ranges { OnOk result (keeps_nums nums.now ≡ true) }
+{
+    put_first_number(text, first, number)?;
+    put_numbers(text, nums)
+}
+
+/// Appends a first word and a number.
+fn put_first_number(text: &mut Vec<u8>, first: &[u8], number: &Num) -> Result<(), NoMemory>
+    ensures text { OnOk result (text.new.items ≡ text.old.items ++ spaced (first.now ∷ signed_decimal number.now ∷ [])) }
+    ensures range { OnOk result (in_number_range number.now ≡ true) }
+{
+    let value = number.value();
+    text.extend_from_slice(first)?;
+    put_number(text, value)
+}
+
+/// Appends a space and a number.
+fn put_number(text: &mut Vec<u8>, number: i64) -> Result<(), NoMemory>
+    ensures { OnOk result (text.new.items ≡ text.old.items ++ 32 ∷ signed_decimal number) }
+{
+    write!(text, " {number}").map_err(|_| NoMemory)
+}
+
+/// Appends each number with a space before it.
+#[tactic(auto, using(crate::proofs::Spaced::numbers_more))]
+fn put_numbers(text: &mut Vec<u8>, nums: &Nums) -> Result<(), NoMemory>
+    ensures text { OnOk result (text.new.items ≡ text.old.items ++ flat_map (λ n. 32 ∷ signed_decimal n) nums.now) }
+    ensures range { OnOk result (keeps_nums nums.now ≡ true) }
+{
+    for value in nums.values() {
+        put_number(text, *value)?;
+    }
+    Ok(())
+}
