@@ -57,7 +57,7 @@ is_change op n A DA B DB S a da b db s e =
     let x : IsCellSet n (change_cells op n A DA B DB) = cell_set-xor n (op_cells op n A B) (op_cells op n (xor_cells n A DA) (xor_cells n B DB)) in
     same_sets S (change_cells op n A DA B DB) s.ascends x.ascends (λ c. e c ∙ sym (has-change op n A DA B DB c a da b db))
 
-has-none : (n : ℕ) (c : List ℤ) → has (cells n []) c ≡ false
+pub has-none : (n : ℕ) (c : List ℤ) → has (cells n []) c ≡ false
 unfolding has
 has-none n c = ap (λ (S : List (List ℤ)). has S c) (cells-empty n)
 
@@ -104,7 +104,7 @@ carries_over n S T s t =
 
 -- ---- the same on vertices
 
-xor_rows_is : (n : ℕ) (V W : List (List ℤ)) → xor_rows n V W ≡ evm n (xor_cells n (cells n V) (cells n W))
+pub xor_rows_is : (n : ℕ) (V W : List (List ℤ)) → xor_rows n V W ≡ evm n (xor_cells n (cells n V) (cells n W))
 unfolding xor_rows combined_rows xor_cells
 xor_rows_is n V W = refl
 

@@ -1,8 +1,9 @@
-//! The change of a Boolean, from its operands before and from their changes.
+//! The change of a Boolean or of a shape, from its operands before and from their changes.
 //!
-//! A change of a solid is the exclusive or of its cells before and after. So a Boolean's value after is its value before,
-//! with the change taken as an exclusive or. The change is made of the operands' changes alone, each cut down by the other
-//! operand: where the operands change little, it is small. (This project's own.)
+//! A change of a solid is the exclusive or of its cells before and after. So a value after is the value before, with the
+//! change taken as an exclusive or. The change of a Boolean is made of the operands' changes alone, each cut down by the
+//! other operand: where the operands change little, it is small. A shape but the projection carries the operand's change
+//! over; the change of a projection is looked for only where the operand's change stands. (This project's own.)
 #![tactic(auto)]
 
 ghost use Rattle.std.specs.Prelude.{◌≡◌, IfOk};
@@ -11,11 +12,15 @@ ghost use Rattle.evm_rows.specs.Rows.{cells_of};
 ghost use Rattle.evm_rows.specs.View.{vertices_of};
 ghost use Rattle.evm_delta.specs.Changes.{value_before, value_after, change_vertices, left_change, right_change};
 
+mod shape_changes;
+mod shapes;
 #[cfg(test)]
 mod tests;
 
 use evm_boolean::{Op2, and, sub};
 use evm_rows::{NoMemory, Rows, Solid, own, xor, xor_into};
+pub use shape_changes::delta1;
+pub use shapes::{DeltaError, Op1, shape};
 use std::alloc::Global;
 
 // Where a change of the left operand changes the value, with the right operand as it will be.

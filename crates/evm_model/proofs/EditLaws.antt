@@ -1,39 +1,203 @@
--- What an edit changes.
-use Rattle.std.proofs.Common.{◌≡◌, ℕ, ◌*◌, ◌==◌, Bool, true, false, not, cond, ◌&&◌, List, [], ◌∷◌, ◌++◌, length, take, drop, Option, Some, None, ℤ, pos, refl, sym, ap, ◌∙◌, subst, is_some, bytes_eq, find, arith}
+-- What an edit keeps and changes.
+use Rattle.std.proofs.Common.{◌≡◌, ℕ, zero, suc, ◌+◌, ◌*◌, ◌≤◌, Bool, true, false, not, cond, ◌&&◌, ◌||◌, List, [], ◌∷◌, length, take, drop, filter, Option, Some, None, ℤ, refl, sym, ap, ◌∙◌, subst, is_some, bytes_eq, count_by, arith}
 use Rattle.std.specs.Prelude.{nat_abs}
-use Rattle.std.specs.List.{list_all}
+use Rattle.std.specs.List.{list_any}
 use Rattle.std.proofs.lemmas.Bool.{false≢true}
-use Rattle.std.proofs.lemmas.Bool.Decides.{Decides-eqb}
 use Rattle.std.proofs.lemmas.List.{length-take-le}
 use Rattle.evm_cells.specs.Places.{ascending}
-use Rattle.evm_cells.specs.Limits.{IsCellSet, is_cell}
+use Rattle.evm_cells.specs.Limits.{IsCellSet}
 use Rattle.evm_cells.specs.Booleans.{xor_cells}
 use Rattle.evm_cells.specs.Boxes.{IsBox, is_box, box_cells}
 use Rattle.evm_cells.proofs.Booleans.{cell_sets}
 use Rattle.evm_cells.proofs.Boxes.{toggle_changes, box_test}
 use Rattle.evm_cells.proofs.Order.{refuted}
-use Rattle.evm_cells.proofs.Xor.{and_first, and_second}
-use Rattle.evm_model.specs.Figures.{Figure, box_of, xor_of, or_of, sub_of, box_fits, same_figure}
-use Rattle.evm_model.specs.Scene.{Scene, Entry, What, Given, has_name, entry_of, stands, dim_of, dim_of_entry, value, entry_value, what_value, with_figure, with_new, holds_cells, IsWell}
-use Rattle.evm_model.specs.Edits.{Edit, Input, Toggle, Add, Cut, Code, Name, Dim, Range, name_of, first_cause, box_causes, box_at, refusal, after, changed, changed_names}
+use Rattle.evm_cells.proofs.Xor.{and_first, and_both}
+use Rattle.evm_script.specs.declared.formula.Formula.{Formula}
+use Rattle.evm_model.specs.Figures.{Figure, nothing, box_of, box_at, xor_of, or_of, sub_of, box_fits, same_figure}
+use Rattle.evm_model.specs.Orders.{is_among, Ordered}
+use Rattle.evm_model.specs.Scene.{Scene, Entry, What, Given, Made, has_name, entry_of, stands, dim_of, operands_of, value, value_within, entry_value, reaches, with_entry, without_entry, with_figure, with_new, with_formula, without_name, formula_dim, IsWell}
+use Rattle.evm_model.specs.Edits.{Edit, Input, Toggle, Add, Cut, Def, Drop, name_of, refusal, with_box, after, changed, changed_names}
+use Rattle.evm_model.proofs.Names.{by_test, not_both, same_name, name_itself, or_left, or_right, or_none, among_none, among_filter}
+use Rattle.evm_model.proofs.Lookups.{none_stands, with_other, with_own, length-with, with_stands, without_other, without_none, length-without, push_other, length-push}
+use Rattle.evm_model.proofs.Levels.{levels_agree, entry_same}
+use Rattle.evm_model.proofs.Counts.{count_cons}
+use Rattle.evm_model.proofs.Orders.{ordered_filter}
 use Rattle.evm_model.proofs.FigureLaws.{same_itself, same_equal}
-use Rattle.evm_model.proofs.SceneLaws.{value_own, value_other, changed_figure, found_passes}
-use Rattle.evm_model.proofs.StepLaws.{none_first, none_later, not_false, value_dim}
+use Rattle.evm_model.proofs.WellScenes.{value_dim, value_cells, sound_made}
+use Rattle.evm_model.proofs.WellEdits.{is_before, before_parts, before_both, before_reads, well_figure, well_new, well_formula, well_without}
+use Rattle.evm_model.proofs.Refusals.{IsBoxFor, new_input, box_for, definition, drops, dim_stated, formula_dim_fits}
 
 -- equal figures
 pub same_both : (a b : Figure) → IsCellSet a.dim a.cells → IsCellSet b.dim b.cells → (same_figure a b ≡ true → a ≡ b) × (a ≡ b → same_figure a b ≡ true)
 same_both a b s t = (same_equal a b s.ascends t.ascends, λ e. ap (λ (x : Figure). same_figure x b) e ∙ same_itself b)
 
--- a name at the end is not found under another name
-other_new : (es : List Entry) (new : Entry) (other : List ℕ) → bytes_eq new.name other ≡ false → entry_of (es ++ new ∷ []) other ≡ entry_of es other
-other_new [] new other d = ap (λ (b : Bool). cond b (Some new) None) d
-other_new (e ∷ es) new other d = ap (cond (has_name other e) (Some e)) (other_new es new other d)
+-- each edit that is not refused keeps a scene well
+well_toggle : (scene : Scene) (name : List ℕ) (nums : List ℤ) → IsWell scene → IsWell (with_box xor_of scene name nums)
+unfolding xor_of
+well_toggle scene name nums well =
+    let a = value scene name in
+    let b = box_at (dim_of scene name) nums in
+    well_figure scene name (xor_of a b) well (value_dim scene well name) (cell_sets a.dim a.cells b.cells).3
 
-pub others_stay : (scene : Scene) (edit : Edit) (other : List ℕ) → bytes_eq (name_of edit) other ≡ false → value (after scene edit) other ≡ value scene other
-others_stay scene (Input name dim) other d = ap entry_value (other_new scene.entries (record { name = name; dim = nat_abs dim; what = Given [] }) other d)
-others_stay scene (Toggle name nums) other d = value_other scene name other _ d
-others_stay scene (Add name nums) other d = value_other scene name other _ d
-others_stay scene (Cut name nums) other d = value_other scene name other _ d
+well_add : (scene : Scene) (name : List ℕ) (nums : List ℤ) → IsWell scene → IsWell (with_box or_of scene name nums)
+unfolding or_of
+well_add scene name nums well =
+    let a = value scene name in
+    let b = box_at (dim_of scene name) nums in
+    well_figure scene name (or_of a b) well (value_dim scene well name) (cell_sets a.dim a.cells b.cells).0
+
+well_cut : (scene : Scene) (name : List ℕ) (nums : List ℤ) → IsWell scene → IsWell (with_box sub_of scene name nums)
+unfolding sub_of
+well_cut scene name nums well =
+    let a = value scene name in
+    let b = box_at (dim_of scene name) nums in
+    well_figure scene name (sub_of a b) well (value_dim scene well name) (cell_sets a.dim a.cells b.cells).2
+
+well_input : (scene : Scene) (name : List ℕ) (dim : ℤ) → IsWell scene → refusal scene (Input name dim) ≡ None → IsWell (after scene (Input name dim))
+unfolding ascending
+well_input scene name dim well r =
+    let new = new_input scene name dim r in
+    well_new scene name (nat_abs dim) (Given []) well new.fresh (dim_stated dim new.fits) refl (λ o m. among_none o m)
+
+well_def : (scene : Scene) (name : List ℕ) (formula : Formula) → IsWell scene → refusal scene (Def name formula) ≡ None → IsWell (after scene (Def name formula))
+well_def scene name formula well r = by (stands scene name) refl
+  where
+    by : (b : Bool) → stands scene name ≡ b
+        → IsWell (cond b (record { entries = with_entry scene.entries name (record { name = name; dim = formula_dim scene formula; what = Made formula }) }) (with_new scene name (formula_dim scene formula) (Made formula)))
+    by true h =
+        let d = definition scene name formula r in
+        well_formula scene name formula well h (d.dim h) (sound_made scene (formula_dim scene formula) formula d.fits d.range refl) d.stand d.free
+    by false h =
+        let d = definition scene name formula r in
+        well_new scene name (formula_dim scene formula) (Made formula) well h (formula_dim_fits scene well formula d.stand d.fits) (sound_made scene (formula_dim scene formula) formula d.fits d.range refl) d.stand
+
+pub well_edit : (scene : Scene) (edit : Edit) → IsWell scene → refusal scene edit ≡ None → IsWell (after scene edit)
+well_edit scene (Input name dim) well r = well_input scene name dim well r
+well_edit scene (Toggle name nums) well r = well_toggle scene name nums well
+well_edit scene (Add name nums) well r = well_add scene name nums well
+well_edit scene (Cut name nums) well r = well_cut scene name nums well
+well_edit scene (Def name formula) well r = well_def scene name formula well r
+well_edit scene (Drop name) well r = let d = drops scene name r in well_without scene name well d.standing d.unread
+
+-- the entries of other names stay, and at most one entry goes, if the name stood
+abbrev pub IsAt : Scene → List ℕ → Scene → Type 0
+IsAt s name u =
+    ((x : List ℕ) → bytes_eq x name ≡ false → entry_of u.entries x ≡ entry_of s.entries x)
+    × (length s.entries ≤ length u.entries + cond (stands s name) 1 0)
+
+pub at_figure : (s : Scene) (name : List ℕ) (new : Figure) → IsAt s name (with_figure s name new)
+at_figure s name new = (
+  λ x d. with_other s.entries name x (record { name = name; dim = new.dim; what = Given new.cells }) refl d,
+  omega (arith, length-with s.entries name (record { name = name; dim = new.dim; what = Given new.cells })),
+)
+
+at_new : (s : Scene) (name : List ℕ) (dim : ℕ) (what : What) → IsAt s name (with_new s name dim what)
+at_new s name dim what = (
+  λ x d. push_other s.entries (record { name = name; dim = dim; what = what }) x d,
+  omega (arith, length-push s.entries (record { name = name; dim = dim; what = what })),
+)
+
+at_formula : (s : Scene) (name : List ℕ) (formula : Formula) → IsAt s name (with_formula s name formula)
+at_formula s name formula = by (stands s name)
+  where
+    by : (b : Bool) → IsAt s name (cond b (record { entries = with_entry s.entries name (record { name = name; dim = formula_dim s formula; what = Made formula }) }) (with_new s name (formula_dim s formula) (Made formula)))
+    by true = (
+      λ x d. with_other s.entries name x (record { name = name; dim = formula_dim s formula; what = Made formula }) refl d,
+      omega (arith, length-with s.entries name (record { name = name; dim = formula_dim s formula; what = Made formula })),
+    )
+    by false = at_new s name (formula_dim s formula) (Made formula)
+
+at_drop : (s : Scene) (name : List ℕ) → IsAt s name (without_name s name)
+at_drop s name = (λ x d. without_other s.entries name x d, by (stands s name) refl)
+  where
+    by : (b : Bool) → stands s name ≡ b → length s.entries ≤ length (without_entry s.entries name) + cond b 1 0
+    by true h = omega (arith, length-without s.entries name h)
+    by false h = omega (arith, ap length (without_none s.entries name h))
+
+pub at_edit : (s : Scene) (edit : Edit) → IsAt s (name_of edit) (after s edit)
+at_edit s (Input name dim) = at_new s name (nat_abs dim) (Given [])
+at_edit s (Toggle name nums) = at_figure s name (xor_of (value s name) (box_at (dim_of s name) nums))
+at_edit s (Add name nums) = at_figure s name (or_of (value s name) (box_at (dim_of s name) nums))
+at_edit s (Cut name nums) = at_figure s name (sub_of (value s name) (box_at (dim_of s name) nums))
+at_edit s (Def name formula) = at_formula s name formula
+at_edit s (Drop name) = at_drop s name
+
+-- a value of a name that does not stand
+none_value : (es : List Entry) (x : List ℕ) → entry_of es x ≡ None → (n : ℕ) → value_within n es x ≡ nothing 0
+none_value es x q zero = ap (λ (e : Option Entry). entry_value e (λ o. nothing 0)) q
+none_value es x q (suc n) = ap (λ (e : Option Entry). entry_value e (λ o. value_within n es o)) q
+
+length-kept : (p : List ℕ → Bool) (xs : List (List ℕ)) → length (filter p xs) ≤ length xs
+length-kept p [] = omega arith
+length-kept p (x ∷ xs) = by (p x) (length-kept p xs)
+  where
+    by : (b : Bool) → length (filter p xs) ≤ length xs → length (cond b (x ∷ filter p xs) (filter p xs)) ≤ length (x ∷ xs)
+    by true h = omega arith
+    by false h = omega arith
+
+-- where one does not pass, fewer are kept
+length-fewer : (p : List ℕ → Bool) (name : List ℕ) (xs : List (List ℕ)) → is_among name xs ≡ true → p name ≡ false → length (filter p xs) + 1 ≤ length xs
+length-fewer p name [] m h = among_none name m
+length-fewer p name (x ∷ xs) m h = by (p x) refl (λ k. length-fewer p name xs k h)
+  where
+    by : (b : Bool) → p x ≡ b → (is_among name xs ≡ true → length (filter p xs) + 1 ≤ length xs) → length (cond b (x ∷ filter p xs) (filter p xs)) + 1 ≤ length (x ∷ xs)
+    by true k rest = by_test (bytes_eq name x)
+        (λ e. absurd (false≢true (sym h ∙ ap p (same_name name x e) ∙ k)))
+        (λ e. omega (arith, rest (sym (ap (λ (b : Bool). b || is_among name xs) e) ∙ m)))
+    by false k rest = omega (arith, length-kept p xs)
+
+-- a name that neither is nor reaches the changed one keeps its value
+module _ (s : Scene) (well : IsWell s) (name : List ℕ) (u : Scene) (at : IsAt s name u) where
+  abbrev front : List (List ℕ)
+  front = filter (is_before s name) well.order
+
+  front_order : Ordered (operands_of s.entries) [] front
+  front_order =
+      ordered_filter (operands_of s.entries) (operands_of s.entries) (is_before s name) [] [] [] well.order
+      (λ x m b o k. (k, or_left (is_before s name o) false (before_reads s well name x b o k)))
+      (λ x b m. m) (λ x m. m) (λ x b m. m) well.ordered
+
+  front_fits : length front ≤ length u.entries
+  front_fits =
+      by_test (stands s name)
+      (λ h. omega (
+        arith,
+        well.size,
+        ap (λ (b : Bool). cond {A = ℕ} b 1 0) h,
+        at.1,
+        length-fewer (is_before s name) name well.order (well.whole name ∙ h) (ap not (or_left (bytes_eq name name) (reaches s name name) (name_itself name))),
+      ))
+      (λ h. omega (arith, well.size, ap (λ (b : Bool). cond {A = ℕ} b 1 0) h, at.1, length-kept (is_before s name) well.order))
+
+  front_other : (x : List ℕ) → is_among x front ≡ true → entry_of u.entries x ≡ entry_of s.entries x
+  front_other x m = at.0 x (before_parts s name x (and_first (is_before s name x) (is_among x well.order) (sym (among_filter (is_before s name) x well.order) ∙ m))).0
+
+  pub value_stays : (x : List ℕ) → bytes_eq x name ≡ false → reaches s x name ≡ false → value u x ≡ value s x
+  value_stays x d r =
+      by_test (stands s x)
+      (λ h. levels_agree (operands_of s.entries) (λ y g. entry_value (entry_of s.entries y) g) (λ n y. value_within n u.entries y) (λ n y. value_within n s.entries y)
+      (λ y g k same. entry_same (entry_of s.entries y) g k same) [] front front_order
+      (λ y m n. ap (λ (e : Option Entry). entry_value e (λ o. value_within n u.entries o)) (front_other y m)) (λ y m n. refl)
+      0 (λ y m i j a b. among_none y m) x
+      (among_filter (is_before s name) x well.order ∙ ap (λ (b : Bool). b && is_among x well.order) (before_both s name x d r) ∙ well.whole x ∙ h)
+      (length u.entries) (length s.entries) (omega (arith, front_fits)) (omega (arith, well.size, length-kept (is_before s name) well.order)))
+      (λ h. let gone = none_stands s.entries x h in
+      none_value u.entries x (at.0 x d ∙ gone) (length u.entries) ∙ sym (none_value s.entries x gone (length s.entries)))
+
+pub others_stay : (scene : Scene) (edit : Edit) (other : List ℕ) → IsWell scene → bytes_eq other (name_of edit) ≡ false → reaches scene other (name_of edit) ≡ false
+    → value (after scene edit) other ≡ value scene other
+others_stay scene edit other well d r = value_stays scene well (name_of edit) (after scene edit) (at_edit scene edit) other d r
+
+-- the value of a name that has another figure
+pub value_own : (scene : Scene) (name : List ℕ) (new : Figure) → stands scene name ≡ true → value (with_figure scene name new) name ≡ new
+value_own scene name new s = by (length (with_figure scene name new).entries)
+  where
+    here : entry_of (with_figure scene name new).entries name ≡ Some (record { name = name; dim = new.dim; what = Given new.cells })
+    here = with_own scene.entries name (record { name = name; dim = new.dim; what = Given new.cells }) refl s
+
+    by : (n : ℕ) → value_within n (with_figure scene name new).entries name ≡ new
+    by zero = ap (λ (e : Option Entry). entry_value e (λ o. nothing 0)) here
+    by (suc n) = ap (λ (e : Option Entry). entry_value e (λ o. value_within n (with_figure scene name new).entries o)) here
 
 pub boxes_combine : (scene : Scene) (name : List ℕ) (nums : List ℤ) → stands scene name ≡ true
     → (value (after scene (Toggle name nums)) name ≡ xor_of (value scene name) (box_at (dim_of scene name) nums))
@@ -41,16 +205,74 @@ pub boxes_combine : (scene : Scene) (name : List ℕ) (nums : List ℤ) → stan
     × (value (after scene (Cut name nums)) name ≡ sub_of (value scene name) (box_at (dim_of scene name) nums))
 boxes_combine scene name nums s = (value_own scene name _ s, value_own scene name _ s, value_own scene name _ s)
 
--- the value of a name that stands is a cell set
-value_cells : (scene : Scene) (name : List ℕ) → IsWell scene → stands scene name ≡ true → IsCellSet (value scene name).dim (value scene name).cells
-value_cells scene name well s = by_entry (entry_of scene.entries name) refl s
+-- how many pass a test that passes no more
+count_fewer : {X : Type 0} (p q : X → Bool) → ((x : X) → p x ≡ true → q x ≡ true) → (xs : List X) → count_by p xs ≤ count_by q xs
+count_fewer p q h [] = omega arith
+count_fewer {X} p q h (x ∷ xs) = by (p x) (q x) refl refl (count_fewer p q h xs)
   where
-    by_what : (n : ℕ) (what : What) → holds_cells n what ≡ true → IsCellSet (what_value n what).dim (what_value n what).cells
-    by_what n (Given cells) h = record { ascends = and_first (ascending cells) (list_all (is_cell n) cells) h; cells = and_second (ascending cells) (list_all (is_cell n) cells) h }
+    by : (a b : Bool) → p x ≡ a → q x ≡ b → count_by p xs ≤ count_by q xs → count_by p (x ∷ xs) ≤ count_by q (x ∷ xs)
+    by a true e f rest = omega (arith, count_cons p x xs, count_cons q x xs ∙ ap (λ (t : Bool). cond t 1 0 + count_by q xs) f, at_most (p x))
+      where
+        at_most : (t : Bool) → cond {A = ℕ} t 1 0 ≤ 1
+        at_most true = omega arith
+        at_most false = omega arith
+    by true false e f rest = absurd (false≢true (sym f ∙ h x e))
+    by false false e f rest = omega (arith, rest, count_cons p x xs ∙ ap (λ (t : Bool). cond t 1 0 + count_by p xs) e, count_cons q x xs ∙ ap (λ (t : Bool). cond t 1 0 + count_by q xs) f)
 
-    by_entry : (o : Option Entry) → entry_of scene.entries name ≡ o → is_some o ≡ true → IsCellSet (entry_value o).dim (entry_value o).cells
-    by_entry None e t = absurd (false≢true t)
-    by_entry (Some e) f t = by_what e.dim e.what (found_passes (λ (x : Entry). holds_cells x.dim x.what) scene.entries name e f well.cells)
+-- some pass a test that one passes
+count_some : {X : Type 0} (p : X → Bool) (xs : List X) → list_any p xs ≡ true → 1 ≤ count_by p xs
+count_some p [] h = absurd (false≢true h)
+count_some p (x ∷ xs) h = by (p x) refl (λ k. count_some p xs k)
+  where
+    by : (b : Bool) → p x ≡ b → (list_any p xs ≡ true → 1 ≤ count_by p xs) → 1 ≤ count_by p (x ∷ xs)
+    by true e rest = omega (arith, count_cons p x xs ∙ ap (λ (t : Bool). cond t 1 0 + count_by p xs) e)
+    by false e rest = omega (arith, count_cons p x xs, rest (sym (ap (λ (t : Bool). t || list_any p xs) e) ∙ h))
+
+-- an edit changes no more than its name and those that reach it
+pub changed_reach : (scene : Scene) (edit : Edit) → IsWell scene
+    → changed scene edit ≤ count_by (λ (e : Entry). bytes_eq e.name (name_of edit) || reaches scene e.name (name_of edit)) scene.entries
+changed_reach scene edit well =
+    count_fewer (λ (e : Entry). stands u e.name && not (same_figure (value scene e.name) (value u e.name))) (λ (e : Entry). bytes_eq e.name name || reaches scene e.name name)
+    (λ e h. by_test (bytes_eq e.name name || reaches scene e.name name) (λ t. t) (λ t. not_both (stands u e.name && not (same_figure (value scene e.name) (value u e.name))) h (unchanged e.name t)))
+    scene.entries
+  where
+    u : Scene
+    u = after scene edit
+
+    name : List ℕ
+    name = name_of edit
+
+    and_no : (b : Bool) → (b && false) ≡ false
+    and_no true = refl
+    and_no false = refl
+
+    unchanged : (x : List ℕ) → (bytes_eq x name || reaches scene x name) ≡ false → (stands u x && not (same_figure (value scene x) (value u x))) ≡ false
+    unchanged x t =
+        let parts = or_none (bytes_eq x name) (reaches scene x name) t in
+        ap (λ (a : Figure). stands u x && not (same_figure (value scene x) a)) (others_stay scene edit x well parts.0 parts.1)
+        ∙ ap (λ (b : Bool). stands u x && not b) (same_itself (value scene x))
+        ∙ and_no (stands u x)
+
+-- a test of names that a name passes which stands
+found_any : (p : List ℕ → Bool) (es : List Entry) (name : List ℕ) → is_some (entry_of es name) ≡ true → p name ≡ true → list_any (λ (e : Entry). p e.name) es ≡ true
+found_any p [] name s h = absurd (false≢true s)
+found_any p (e ∷ es) name s h =
+    elim (has_name name e) as (λ b. has_name name e ≡ b → is_some (cond b (Some e) (entry_of es name)) ≡ true → list_any (λ (x : Entry). p x.name) (e ∷ es) ≡ true) [
+      | true ↦ λ q k. or_left (p e.name) (list_any (λ (x : Entry). p x.name) es) (ap p (sym (same_name name e.name q)) ∙ h)
+      | false ↦ λ q k. or_right (p e.name) (list_any (λ (x : Entry). p x.name) es) (found_any p es name k h)
+    ] refl s
+
+-- another figure under a name that stands changes that name
+pub changed_own : (scene : Scene) (name : List ℕ) (new : Figure) → stands scene name ≡ true → same_figure (value scene name) new ≡ false → 1 ≤ changed_names scene (with_figure scene name new)
+changed_own scene name new s d =
+    count_some (λ (e : Entry). stands u e.name && not (same_figure (value scene e.name) (value u e.name))) scene.entries
+    (found_any (λ x. stands u x && not (same_figure (value scene x) (value u x))) scene.entries name s
+    (and_both (stands u name) (not (same_figure (value scene name) (value u name)))
+    (with_stands scene.entries name name (record { name = name; dim = new.dim; what = Given new.cells }) refl ∙ s)
+    (ap (λ (a : Figure). not (same_figure (value scene name) a)) (value_own scene name new s) ∙ ap not d)))
+  where
+    u : Scene
+    u = with_figure scene name new
 
 -- what a box that is not refused is
 box_stated : (n : ℕ) (nums : List ℤ) → length nums ≡ 2 * n → box_fits (take n nums) (drop n nums) ≡ true → IsBox n (take n nums) (drop n nums)
@@ -59,7 +281,7 @@ box_stated n nums both h =
     (box_test n (take n nums) (drop n nums)).0 (ap (λ (m : ℕ). is_box m (take n nums) (drop n nums)) (sym (length-take-le n nums (omega arith))) ∙ h)
 
 -- the exclusive or with a box that fits is another figure
-toggled_differs : (a : Figure) (nums : List ℤ) → IsCellSet a.dim a.cells → length nums ≡ 2 * a.dim → box_fits (take a.dim nums) (drop a.dim nums) ≡ true → same_figure a (xor_of a (box_at a.dim nums)) ≡ false
+pub toggled_differs : (a : Figure) (nums : List ℤ) → IsCellSet a.dim a.cells → length nums ≡ 2 * a.dim → box_fits (take a.dim nums) (drop a.dim nums) ≡ true → same_figure a (xor_of a (box_at a.dim nums)) ≡ false
 unfolding xor_of box_of
 toggled_differs a nums s both h =
     refuted (same_figure a (xor_of a (box_at a.dim nums)))
@@ -68,37 +290,20 @@ toggled_differs a nums s both h =
     (ap (λ (m : ℕ). xor_cells a.dim a.cells (box_cells m (take a.dim nums) (drop a.dim nums))) (sym (length-take-le a.dim nums (omega arith)))
     ∙ sym (ap (λ (x : Figure). x.cells) equal)))
 
-pub toggle_changes_one : (scene : Scene) (name : List ℕ) (nums : List ℤ) → IsWell scene → refusal scene (Toggle name nums) ≡ None → changed scene (Toggle name nums) ≡ 1
-toggle_changes_one scene name nums well r =
-    changed_figure scene name (xor_of a (box_at (dim_of scene name) nums)) well standing
-    ∙ ap (λ (b : Bool). cond {A = ℕ} b 0 1) differs
+-- a toggle that is not refused changes its name
+pub toggle_changes_some : (scene : Scene) (name : List ℕ) (nums : List ℤ) → IsWell scene → refusal scene (Toggle name nums) ≡ None
+    → same_figure (value scene name) (value (after scene (Toggle name nums)) name) ≡ false
+toggle_changes_some scene name nums well r =
+    ap (λ (a : Figure). same_figure (value scene name) a) (boxes_combine scene name nums box.standing).0
+    ∙ subst (λ (m : ℕ). same_figure (value scene name) (xor_of (value scene name) (box_at m nums)) ≡ false) (sym (value_dim scene well name))
+    (toggled_differs (value scene name) nums (value_cells scene well name) (box.numbers ∙ ap (λ (m : ℕ). 2 * m) (value_dim scene well name))
+    (subst (λ (m : ℕ). box_fits (take m nums) (drop m nums) ≡ true) (value_dim scene well name) box.fits))
   where
-    a : Figure
-    a = value scene name
+    box : IsBoxFor scene name nums
+    box = box_for scene name nums r
 
-    n : ℕ
-    n = dim_of scene name
-
-    range : List (Bool × Code)
-    range = (not (box_fits (take n nums) (drop n nums)), Range) ∷ []
-
-    dim : List (Bool × Code)
-    dim = (not (length nums == 2 * n), Dim) ∷ range
-
-    standing : stands scene name ≡ true
-    standing = not_false (stands scene name) (none_first (not (stands scene name), Name) dim r)
-
-    later : first_cause dim ≡ None
-    later = none_later (not (stands scene name), Name) dim r
-
-    both : length nums ≡ 2 * n
-    both = (Decides-eqb (length nums) (2 * n)).0 (not_false (length nums == 2 * n) (none_first (not (length nums == 2 * n), Dim) range later))
-
-    fits : box_fits (take n nums) (drop n nums) ≡ true
-    fits = not_false (box_fits (take n nums) (drop n nums)) (none_first (not (box_fits (take n nums) (drop n nums)), Range) [] (none_later (not (length nums == 2 * n), Dim) range later))
-
-    differs : same_figure a (xor_of a (box_at n nums)) ≡ false
-    differs =
-        subst (λ (m : ℕ). same_figure a (xor_of a (box_at m nums)) ≡ false) (sym (value_dim scene name))
-        (toggled_differs a nums (value_cells scene name well standing) (both ∙ ap (λ (m : ℕ). 2 * m) (value_dim scene name))
-        (subst (λ (m : ℕ). box_fits (take m nums) (drop m nums) ≡ true) (value_dim scene name) fits))
+pub toggle_counts : (scene : Scene) (name : List ℕ) (nums : List ℤ) → IsWell scene → refusal scene (Toggle name nums) ≡ None → 1 ≤ changed scene (Toggle name nums)
+toggle_counts scene name nums well r =
+    let box = box_for scene name nums r in
+    changed_own scene name (xor_of (value scene name) (box_at (dim_of scene name) nums)) box.standing
+    (ap (λ (a : Figure). same_figure (value scene name) a) (sym (boxes_combine scene name nums box.standing).0) ∙ toggle_changes_some scene name nums well r)

@@ -1,11 +1,11 @@
 -- Texts of replies.
-use Rattle.std.proofs.Common.{◌≡◌, ◌⊎◌, ℕ, Bool, true, false, cond, List, [], ◌∷◌, ◌++◌, length, codes, decimal, ℤ, refl, sym, ap, ◌∙◌, inl, inr, ⊎_elim}
+use Rattle.std.proofs.Common.{◌≡◌, ◌⊎◌, ℕ, cond, List, [], ◌∷◌, ◌++◌, length, codes, decimal, ℤ, refl, sym, ap, ◌∙◌, inl, inr, ⊎_elim}
 use Rattle.std.specs.Prelude.{nat_eq}
-use Rattle.std.specs.List.{starts_with}
+use Rattle.std.specs.List.{starts_with, join_with_byte}
 use Rattle.std.proofs.lemmas.List.{append_assoc}
-use Rattle.evm_model.specs.Figures.{Figure, vertices_in, Inside, Boundary, Outside}
-use Rattle.evm_model.specs.Edits.{Code, Line, Syntax, Name, Taken, Dim, Range, Memory}
-use Rattle.evm_model.specs.Replies.{Reply, Empty, No, Changed, Shown, Measured, Filled, Placed, reply_text, line_of, rows_text, spaced, code_text, place_text, is_no}
+use Rattle.evm_model.specs.Figures.{vertices_in}
+use Rattle.evm_model.specs.Scene.{Entry}
+use Rattle.evm_model.specs.Replies.{Reply, Empty, No, Changed, Shown, Measured, Filled, Placed, Listed, reply_text, line_of, rows_text, spaced, entry_words, entries_text, code_text, place_text, is_no}
 
 pub begins : (reply : Reply) → starts_with nat_eq (reply_text reply) (codes "no") ≡ is_no reply
 unfolding reply_text
@@ -16,6 +16,7 @@ begins (Shown a) = refl
 begins (Measured n) = refl
 begins (Filled full) = refl
 begins (Placed place) = refl
+begins (Listed entries) = refl
 
 -- a text that is empty or ends with LF
 abbrev pub IsLines : List ℕ → Type 0
@@ -39,6 +40,10 @@ rows_lines : (rows : List (List ℤ)) → IsLines (rows_text rows)
 rows_lines [] = inl refl
 rows_lines (row ∷ rows) = then_lines (spaced row) (rows_text rows) (rows_lines rows)
 
+entries_lines : (entries : List Entry) → IsLines (entries_text entries)
+entries_lines [] = inl refl
+entries_lines (e ∷ es) = then_lines (join_with_byte 32 (entry_words e)) (entries_text es) (entries_lines es)
+
 pub are_lines : (reply : Reply) → IsLines (reply_text reply)
 unfolding reply_text
 are_lines Empty = inl refl
@@ -48,3 +53,4 @@ are_lines (Shown a) = then_lines (codes "ok " ++ decimal a.dim ++ 32 ∷ decimal
 are_lines (Measured n) = one_line (codes "ok " ++ decimal n)
 are_lines (Filled full) = one_line (codes "ok " ++ cond full (codes "filled") (codes "empty"))
 are_lines (Placed place) = one_line (codes "ok " ++ place_text place)
+are_lines (Listed entries) = then_lines (codes "ok " ++ decimal (length entries)) (entries_text entries) (entries_lines entries)

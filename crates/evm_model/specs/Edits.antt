@@ -1,30 +1,39 @@
 -- Edits of a scene: what refuses them, what they leave, and how many names they change.
-use Rattle.std.specs.Prelude.{ℕ, ◌*◌, ◌==◌, Bool, not, ◌&&◌, if◌then◌else◌, ℤ, nat_abs, List, [], ◌∷◌, length, take, drop, Option, None, Some, count_by}
-use Rattle.std.specs.List.{list_all}
-use Rattle.evm_model.specs.Figures.{Figure, box_of, xor_of, or_of, sub_of, box_fits, same_figure}
-use Rattle.evm_model.specs.Scene.{Scene, Entry, Given, stands, dim_of, value, with_figure, with_new, is_dim}
+use Rattle.std.specs.Prelude.{ℕ, ◌*◌, ◌==◌, Bool, not, ◌&&◌, ◌||◌, if◌then◌else◌, ℤ, nat_abs, List, [], ◌∷◌, length, Option, None, Some, count_by, bytes_eq}
+use Rattle.std.specs.List.{list_any, list_all}
+use Rattle.evm_script.specs.declared.formula.Formula.{Formula}
+use Rattle.evm_model.specs.Figures.{Figure, low_of, high_of, box_at, xor_of, or_of, sub_of, box_fits, same_figure}
+use Rattle.evm_model.specs.Scene.{Scene, Entry, Given, stands, is_input, is_read, dim_of, value, reaches, operands, formula_dim, formula_fits, formula_in_range, with_figure, with_formula, with_new, without_name, is_dim}
 
--- an edit: a name, and the dimension of a new input or the numbers of a box
+-- an edit: a name, and the dimension of a new input, the numbers of a box, a formula, or nothing more
 pub data Edit : Type 0 where
   Input : List ℕ → ℤ → Edit
   Toggle : List ℕ → List ℤ → Edit
   Add : List ℕ → List ℤ → Edit
   Cut : List ℕ → List ℤ → Edit
+  Def : List ℕ → Formula → Edit
+  Drop : List ℕ → Edit
 
--- the name that an edit makes or changes
+-- the name that an edit makes, changes or takes out
 abbrev pub name_of : Edit → List ℕ
 name_of (Input name dim) = name
 name_of (Toggle name nums) = name
 name_of (Add name nums) = name
 name_of (Cut name nums) = name
+name_of (Def name formula) = name
+name_of (Drop name) = name
 
--- why a line is refused: it is too long, or no command; the name does not stand, or stands already; the dimension or the count
--- of numbers is wrong; a number is past the limits; or memory was missing
+-- why a line is refused: it is too long, or no command; a name does not stand, or stands already; the name stands for the other
+-- kind, an input or a formula; it is read by a formula; a formula would reach itself; the dimension or the count of numbers is
+-- wrong; a number is past the limits; or memory was missing
 pub data Code : Type 0 where
   Line : Code
   Syntax : Code
   Name : Code
   Taken : Code
+  Kind : Code
+  Used : Code
+  Cycle : Code
   Dim : Code
   Range : Code
   Memory : Code
@@ -33,18 +42,6 @@ pub data Code : Type 0 where
 abbrev pub first_cause : List (Bool × Code) → Option Code
 first_cause [] = None
 first_cause (c ∷ cs) = if c.0 then Some c.1 else first_cause cs
-
--- the lower corner that 2n numbers state
-abbrev pub low_of : ℕ → List ℤ → List ℤ
-low_of n nums = take n nums
-
--- the upper corner
-abbrev pub high_of : ℕ → List ℤ → List ℤ
-high_of n nums = drop n nums
-
--- the box between them
-abbrev pub box_at : ℕ → List ℤ → Figure
-box_at n nums = box_of (low_of n nums) (high_of n nums)
 
 -- what refuses a question about a name
 abbrev pub name_causes : Scene → List ℕ → List (Bool × Code)
@@ -62,8 +59,31 @@ place_causes scene name nums in_limits =
 abbrev pub box_causes : Scene → List ℕ → List ℤ → List (Bool × Code)
 box_causes scene name nums =
     (not (stands scene name), Name)
+    ∷ (not (is_input scene name), Kind)
     ∷ (not (length nums == 2 * dim_of scene name), Dim)
     ∷ (not (box_fits (low_of (dim_of scene name) nums) (high_of (dim_of scene name) nums)), Range)
+    ∷ []
+
+-- whether some operand of a formula other than the name that is being made does not stand
+abbrev pub lacks_operand : Scene → List ℕ → Formula → Bool
+lacks_operand scene name formula = list_any (λ o. not (bytes_eq o name) && not (stands scene o)) (operands formula)
+
+-- whether a name would reach itself by this formula
+abbrev pub closes_cycle : Scene → List ℕ → Formula → Bool
+closes_cycle scene name formula = list_any (λ o. bytes_eq o name || reaches scene o name) (operands formula)
+
+-- whether a formula has no dimension, or another than the name that stands
+abbrev pub misses_dim : Scene → List ℕ → Formula → Bool
+misses_dim scene name formula = not (formula_fits scene formula) || (stands scene name && not (formula_dim scene formula == dim_of scene name))
+
+-- what refuses a definition
+abbrev pub def_causes : Scene → List ℕ → Formula → List (Bool × Code)
+def_causes scene name formula =
+    (lacks_operand scene name formula, Name)
+    ∷ (is_input scene name, Kind)
+    ∷ (closes_cycle scene name formula, Cycle)
+    ∷ (misses_dim scene name formula, Dim)
+    ∷ (not (formula_in_range scene formula), Range)
     ∷ []
 
 -- what refuses an edit, in order
@@ -72,6 +92,8 @@ edit_causes scene (Input name dim) = (stands scene name, Taken) ∷ (not (is_dim
 edit_causes scene (Toggle name nums) = box_causes scene name nums
 edit_causes scene (Add name nums) = box_causes scene name nums
 edit_causes scene (Cut name nums) = box_causes scene name nums
+edit_causes scene (Def name formula) = def_causes scene name formula
+edit_causes scene (Drop name) = (not (stands scene name), Name) ∷ (is_read scene name, Used) ∷ []
 
 -- the code that refuses an edit, or none
 abbrev pub refusal : Scene → Edit → Option Code
@@ -87,6 +109,8 @@ after scene (Input name dim) = with_new scene name (nat_abs dim) (Given [])
 after scene (Toggle name nums) = with_box xor_of scene name nums
 after scene (Add name nums) = with_box or_of scene name nums
 after scene (Cut name nums) = with_box sub_of scene name nums
+after scene (Def name formula) = with_formula scene name formula
+after scene (Drop name) = without_name scene name
 
 -- how many names stand before and after with different values
 abbrev pub changed_names : Scene → Scene → ℕ

@@ -1,8 +1,8 @@
 -- Figures: the solids of a scene, each a cell set with its dimension.
-use Rattle.std.specs.Prelude.{ℕ, ◌==◌, Bool, ◌&&◌, if◌then◌else◌, ℤ, List, [], length}
+use Rattle.std.specs.Prelude.{ℕ, ◌==◌, Bool, ◌&&◌, if◌then◌else◌, ℤ, List, [], length, take, drop}
 use Rattle.std.specs.List.{list_all}
 use Rattle.evm_cells.specs.Places.{has}
-use Rattle.evm_cells.specs.Booleans.{or_cells, sub_cells, xor_cells}
+use Rattle.evm_cells.specs.Booleans.{or_cells, and_cells, sub_cells, xor_cells}
 use Rattle.evm_cells.specs.Vertices.{evm}
 use Rattle.evm_cells.specs.Boxes.{box_cells, is_box}
 use Rattle.evm_cells.specs.Measures.{content, boundary, is_inside, is_outside}
@@ -20,6 +20,18 @@ nothing n = record { dim = n; cells = [] }
 unfoldable pub box_of : List ℤ → List ℤ → Figure
 box_of lo hi = record { dim = length lo; cells = box_cells (length lo) lo hi }
 
+-- the lower corner that 2n numbers state
+abbrev pub low_of : ℕ → List ℤ → List ℤ
+low_of n nums = take n nums
+
+-- the upper corner
+abbrev pub high_of : ℕ → List ℤ → List ℤ
+high_of n nums = drop n nums
+
+-- the box between them
+abbrev pub box_at : ℕ → List ℤ → Figure
+box_at n nums = box_of (low_of n nums) (high_of n nums)
+
 -- the two corners are in the limits, and the box has room on each axis
 unfoldable pub box_fits : List ℤ → List ℤ → Bool
 box_fits lo hi = is_box (length lo) lo hi
@@ -31,6 +43,10 @@ xor_of a b = record { dim = a.dim; cells = xor_cells a.dim a.cells b.cells }
 -- the cells of either
 unfoldable pub or_of : Figure → Figure → Figure
 or_of a b = record { dim = a.dim; cells = or_cells a.dim a.cells b.cells }
+
+-- the cells of both
+unfoldable pub and_of : Figure → Figure → Figure
+and_of a b = record { dim = a.dim; cells = and_cells a.dim a.cells b.cells }
 
 -- the cells of the first that are not of the second
 unfoldable pub sub_of : Figure → Figure → Figure

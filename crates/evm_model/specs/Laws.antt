@@ -1,10 +1,12 @@
--- Laws of figures, replies, steps and runs.
-use Rattle.std.specs.Prelude.{ℕ, ◌≡◌, ◌≢◌, ◌↔◌, ◌≤◌, ◌⊎◌, Bool, true, false, not, nat_eq, ℤ, List, [], ◌∷◌, ◌++◌, length, take, flat_map, codes, Option, None, bytes_eq, if◌then◌else◌}
+-- Laws of figures, scenes, edits, replies, steps and runs.
+use Rattle.std.specs.Prelude.{ℕ, ◌≡◌, ◌≢◌, ◌↔◌, ◌≤◌, ◌⊎◌, true, false, not, ◌||◌, nat_eq, nat_abs, ℤ, List, [], ◌∷◌, ◌++◌, length, take, flat_map, codes, None, bytes_eq, count_by, if◌then◌else◌}
 use Rattle.std.specs.List.{list_any, list_all, starts_with}
 use Rattle.evm_cells.specs.Limits.{IsCellSet}
-use Rattle.evm_model.specs.Figures.{Figure, xor_of, or_of, sub_of, same_figure}
-use Rattle.evm_model.specs.Scene.{Scene, start, stands, dim_of, value, with_figure, IsWell}
-use Rattle.evm_model.specs.Edits.{Edit, Toggle, Add, Cut, Memory, name_of, box_at, refusal, after, changed, changed_names}
+use Rattle.evm_script.specs.declared.formula.Formula.{Formula}
+use Rattle.evm_model.specs.Figures.{Figure, nothing, box_at, xor_of, or_of, sub_of, same_figure}
+use Rattle.evm_model.specs.Orders.{is_among}
+use Rattle.evm_model.specs.Scene.{Scene, Entry, start, entry_of, stands, dim_of, operands_of, formula_value, entry_value, value, reaches, is_read, with_figure, IsWell}
+use Rattle.evm_model.specs.Edits.{Edit, Input, Toggle, Add, Cut, Def, Drop, Memory, name_of, refusal, after, changed, changed_names}
 use Rattle.evm_model.specs.Replies.{Reply, No, reply_text, line_of, is_no}
 use Rattle.evm_model.specs.Steps.{step}
 use Rattle.evm_model.specs.Runs.{Mark, lines, run}
@@ -37,9 +39,49 @@ StartIsWell = IsWell start
 abbrev pub StepsKeepWell : Type 0
 StepsKeepWell = (scene : Scene) (line : List ℕ) → IsWell scene → IsWell (step scene line).scene
 
--- an edit leaves the values of all names but its own
+-- the value of a name is what its entry makes of the values of its operands
+abbrev pub ValuesFollowFormulas : Type 0
+ValuesFollowFormulas = (scene : Scene) (name : List ℕ) → IsWell scene → value scene name ≡ entry_value (entry_of scene.entries name) (value scene)
+
+-- figures that follow the formulas are the values
+abbrev pub FormulasDetermineValues : Type 0
+FormulasDetermineValues = (scene : Scene) (figures : List ℕ → Figure) → IsWell scene
+    → ((name : List ℕ) → figures name ≡ entry_value (entry_of scene.entries name) figures)
+    → (name : List ℕ) → figures name ≡ value scene name
+
+-- a name reaches what it reads, and what that reaches, and no more
+abbrev pub ReachingFollowsFormulas : Type 0
+ReachingFollowsFormulas = (scene : Scene) (name other : List ℕ) → IsWell scene
+    → reaches scene name other ≡ list_any (λ o. bytes_eq o other || reaches scene o other) (operands_of scene.entries name)
+
+-- no name reaches itself
+abbrev pub NoneReachesItself : Type 0
+NoneReachesItself = (scene : Scene) (name : List ℕ) → IsWell scene → reaches scene name name ≡ false
+
+-- what a name reads stands
+abbrev pub OperandsStand : Type 0
+OperandsStand = (scene : Scene) (name operand : List ℕ) → IsWell scene → is_among operand (operands_of scene.entries name) ≡ true → stands scene operand ≡ true
+
+-- the dimension of a name is that of its value
+abbrev pub DimIsOfValue : Type 0
+DimIsOfValue = (scene : Scene) (name : List ℕ) → IsWell scene → dim_of scene name ≡ (value scene name).dim
+
+-- each value is a cell set of its dimension
+abbrev pub ValuesAreCellSets : Type 0
+ValuesAreCellSets = (scene : Scene) (name : List ℕ) → IsWell scene → IsCellSet (value scene name).dim (value scene name).cells
+
+-- an edit leaves the value of each other name that does not reach its own
 abbrev pub OthersStay : Type 0
-OthersStay = (scene : Scene) (edit : Edit) (other : List ℕ) → bytes_eq (name_of edit) other ≡ false → value (after scene edit) other ≡ value scene other
+OthersStay = (scene : Scene) (edit : Edit) (other : List ℕ) → IsWell scene → bytes_eq other (name_of edit) ≡ false → reaches scene other (name_of edit) ≡ false
+    → value (after scene edit) other ≡ value scene other
+
+-- each other name stands after an edit where it stood before
+abbrev pub OthersStand : Type 0
+OthersStand = (scene : Scene) (edit : Edit) (other : List ℕ) → bytes_eq other (name_of edit) ≡ false → stands (after scene edit) other ≡ stands scene other
+
+-- a new input has no cell
+abbrev pub InputsStartEmpty : Type 0
+InputsStartEmpty = (scene : Scene) (name : List ℕ) (dim : ℤ) → IsWell scene → refusal scene (Input name dim) ≡ None → value (after scene (Input name dim)) name ≡ nothing (nat_abs dim)
 
 -- a box combines with the value of the name
 abbrev pub BoxesCombine : Type 0
@@ -48,14 +90,45 @@ BoxesCombine = (scene : Scene) (name : List ℕ) (nums : List ℤ) → stands sc
     × (value (after scene (Add name nums)) name ≡ or_of (value scene name) (box_at (dim_of scene name) nums))
     × (value (after scene (Cut name nums)) name ≡ sub_of (value scene name) (box_at (dim_of scene name) nums))
 
--- another figure under a name that stands changes that name alone, or none where the figure is the same
+-- a definition gives its name what the formula makes of the values that the operands have before, and keep
+abbrev pub DefinitionsHold : Type 0
+DefinitionsHold = (scene : Scene) (name : List ℕ) (formula : Formula) → IsWell scene → refusal scene (Def name formula) ≡ None
+    → value (after scene (Def name formula)) name ≡ formula_value formula (value scene)
+
+-- a dropped name does not stand
+abbrev pub DropsTakeOut : Type 0
+DropsTakeOut = (scene : Scene) (name : List ℕ) → IsWell scene → stands (after scene (Drop name)) name ≡ false
+
+-- an edit changes no names but its own and those that reach it
+abbrev pub ChangedReachName : Type 0
+ChangedReachName = (scene : Scene) (edit : Edit) → IsWell scene
+    → changed scene edit ≤ count_by (λ (e : Entry). bytes_eq e.name (name_of edit) || reaches scene e.name (name_of edit)) scene.entries
+
+-- an edit that makes its name changes no other
+abbrev pub NewNamesChangeNone : Type 0
+NewNamesChangeNone = (scene : Scene) (edit : Edit) → IsWell scene → stands scene (name_of edit) ≡ false → changed scene edit ≡ 0
+
+-- nor does a drop that is not refused
+abbrev pub DropsChangeNone : Type 0
+DropsChangeNone = (scene : Scene) (name : List ℕ) → IsWell scene → refusal scene (Drop name) ≡ None → changed scene (Drop name) ≡ 0
+
+-- another figure under a name that no formula reads changes that name alone, or none where the figure is the same
 abbrev pub OneNameChanges : Type 0
-OneNameChanges = (scene : Scene) (name : List ℕ) (new : Figure) → IsWell scene → stands scene name ≡ true
+OneNameChanges = (scene : Scene) (name : List ℕ) (new : Figure) → IsWell scene → stands scene name ≡ true → is_read scene name ≡ false
     → changed_names scene (with_figure scene name new) ≡ (if same_figure (value scene name) new then 0 else 1)
 
+-- the figure that a name has already changes no value
+abbrev pub SameFigureStays : Type 0
+SameFigureStays = (scene : Scene) (name other : List ℕ) → IsWell scene → value (with_figure scene name (value scene name)) other ≡ value scene other
+
 -- a toggle that is not refused always changes its name
-abbrev pub ToggleChangesOne : Type 0
-ToggleChangesOne = (scene : Scene) (name : List ℕ) (nums : List ℤ) → IsWell scene → refusal scene (Toggle name nums) ≡ None → changed scene (Toggle name nums) ≡ 1
+abbrev pub ToggleChangesName : Type 0
+ToggleChangesName = (scene : Scene) (name : List ℕ) (nums : List ℤ) → IsWell scene → refusal scene (Toggle name nums) ≡ None
+    → same_figure (value scene name) (value (after scene (Toggle name nums)) name) ≡ false
+
+-- and so counts at least that name
+abbrev pub ToggleCountsName : Type 0
+ToggleCountsName = (scene : Scene) (name : List ℕ) (nums : List ℤ) → IsWell scene → refusal scene (Toggle name nums) ≡ None → 1 ≤ changed scene (Toggle name nums)
 
 -- each line is answered once, as far as there are marks
 abbrev pub OneReplyEach : Type 0

@@ -3,9 +3,11 @@ use Rattle.std.specs.Prelude.{ℕ, ℤ, Bool, true, false, if◌then◌else◌, 
 use Rattle.std.specs.List.{join_with_byte}
 use Rattle.std.specs.Fmt.{signed_decimal}
 use Rattle.evm_model.specs.Figures.{Figure, Place, Inside, Boundary, Outside, vertices_in}
-use Rattle.evm_model.specs.Edits.{Code, Line, Syntax, Name, Taken, Dim, Range, Memory}
+use Rattle.evm_script.specs.Printed.{formula_words}
+use Rattle.evm_model.specs.Scene.{Entry, What, Given, Made}
+use Rattle.evm_model.specs.Edits.{Code, Line, Syntax, Name, Taken, Kind, Used, Cycle, Dim, Range, Memory}
 
--- nothing, a refusal, how many names changed, a figure, a measure, whether a cell is filled, or the place of a point
+-- nothing, a refusal, how many names changed, a figure, a measure, whether a cell is filled, the place of a point, or the names
 pub data Reply : Type 0 where
   Empty : Reply
   No : Code → Reply
@@ -14,6 +16,7 @@ pub data Reply : Type 0 where
   Measured : ℕ → Reply
   Filled : Bool → Reply
   Placed : Place → Reply
+  Listed : List Entry → Reply
 
 -- the word of a code
 abbrev pub code_text : Code → List ℕ
@@ -21,6 +24,9 @@ code_text Line = codes "line"
 code_text Syntax = codes "syntax"
 code_text Name = codes "name"
 code_text Taken = codes "taken"
+code_text Kind = codes "kind"
+code_text Used = codes "used"
+code_text Cycle = codes "cycle"
 code_text Dim = codes "dim"
 code_text Range = codes "range"
 code_text Memory = codes "memory"
@@ -43,6 +49,19 @@ spaced numbers = join_with_byte 32 (map signed_decimal numbers)
 abbrev pub rows_text : List (List ℤ) → List ℕ
 rows_text rows = flat_map (λ row. line_of (spaced row)) rows
 
+-- the words of what a name stands for: `input`, or those of its formula
+abbrev pub what_words : What → List (List ℕ)
+what_words (Given cells) = codes "input" ∷ []
+what_words (Made formula) = formula_words formula
+
+-- the words of an entry: its name, its dimension, and what it stands for
+abbrev pub entry_words : Entry → List (List ℕ)
+entry_words e = e.name ∷ decimal e.dim ∷ what_words e.what
+
+-- one line an entry
+abbrev pub entries_text : List Entry → List ℕ
+entries_text entries = flat_map (λ (e : Entry). line_of (join_with_byte 32 (entry_words e))) entries
+
 -- the bytes of a reply
 unfoldable pub reply_text : Reply → List ℕ
 reply_text Empty = []
@@ -52,6 +71,7 @@ reply_text (Shown a) = line_of (codes "ok " ++ decimal a.dim ++ 32 ∷ decimal (
 reply_text (Measured n) = line_of (codes "ok " ++ decimal n)
 reply_text (Filled full) = line_of (codes "ok " ++ (if full then codes "filled" else codes "empty"))
 reply_text (Placed place) = line_of (codes "ok " ++ place_text place)
+reply_text (Listed entries) = line_of (codes "ok " ++ decimal (length entries)) ++ entries_text entries
 
 -- whether a reply refuses
 abbrev pub is_no : Reply → Bool
@@ -62,3 +82,4 @@ is_no (Shown a) = false
 is_no (Measured n) = false
 is_no (Filled full) = false
 is_no (Placed place) = false
+is_no (Listed entries) = false

@@ -8,8 +8,8 @@ use Rattle.evm_script.specs.declared.command.LineError.{LineError}
 use Rattle.evm_script.specs.declared.command.LineError.TheVariants as faults
 use Rattle.evm_model.specs.Figures.{content_of, boundary_of, fills, place_of}
 use Rattle.evm_model.specs.Scene.{Scene, value, dim_of}
-use Rattle.evm_model.specs.Edits.{Edit, Input, Toggle, Add, Cut, Code, Line, Syntax, first_cause, name_causes, place_causes, refusal, after, changed}
-use Rattle.evm_model.specs.Replies.{Reply, Empty, No, Changed, Shown, Measured, Filled, Placed}
+use Rattle.evm_model.specs.Edits.{Edit, Input, Toggle, Add, Cut, Def, Drop, Code, Line, Syntax, first_cause, name_causes, place_causes, refusal, after, changed}
+use Rattle.evm_model.specs.Replies.{Reply, Empty, No, Changed, Shown, Measured, Filled, Placed, Listed}
 
 -- what a line does: its reply, and the scene after it
 pub record Turn : Type 0 where
@@ -40,6 +40,9 @@ turn_of scene (commands.Input name dim) = edited scene (Input name dim) (Changed
 turn_of scene (commands.Toggle name nums) = edited scene (Toggle name nums) (Changed (changed scene (Toggle name nums)))
 turn_of scene (commands.Add name nums) = edited scene (Add name nums) (Changed (changed scene (Add name nums)))
 turn_of scene (commands.Cut name nums) = edited scene (Cut name nums) (Changed (changed scene (Cut name nums)))
+turn_of scene (commands.Def name formula) = edited scene (Def name formula) (Changed (changed scene (Def name formula)))
+turn_of scene (commands.Drop name) = edited scene (Drop name) (Changed 0)
+turn_of scene commands.List = stays scene (Listed scene.entries)
 turn_of scene (commands.Show name) = asked (name_causes scene name) scene (Shown (value scene name))
 turn_of scene (commands.Content name) = asked (name_causes scene name) scene (Measured (content_of (value scene name)))
 turn_of scene (commands.Boundary name) = asked (name_causes scene name) scene (Measured (boundary_of (value scene name)))

@@ -4,14 +4,22 @@
 //! speak of, and each function below takes nothing, gives nothing and does nothing: what it ensures are laws that the
 //! definitions keep.
 //!
-//! A **scene** is a list of names in the order of their making, each with a dimension and the cells of an input. A **figure** is
-//! the cell set of a name with its dimension. A **step** is what one line does: its reply, and the scene after it. A **run**
-//! takes the lines of a script in order, each with a mark that says whether it was answered or memory was missing.
+//! A **scene** is a list of names in the order of their making, each with a dimension and what it stands for: the cells of an
+//! input, or a formula over other names, its operands. A **figure** is a cell set with its dimension. The **value** of a name is
+//! a figure: the cells of an input, or what a formula makes of the values of its operands. A name **reaches** its operands and
+//! what they reach. A scene is **well** where names differ, dimensions are 2 to 6, each input is a cell set, each formula fits
+//! its operands, and the names can be put in an order in which operands come first. A **step** is what one line does: its
+//! reply, and the scene after it. A **run** takes the lines of a script in order, each with a mark that says whether it was
+//! answered or memory was missing.
 #![tactic(auto)]
 
 ghost use Rattle.evm_model.specs.Laws.{SameIsEqual, RefusalsBeginWithNo, RepliesAreLines};
 ghost use Rattle.evm_model.specs.Laws.{RefusalChangesNothing, StepHasMemory, StartIsWell, StepsKeepWell};
-ghost use Rattle.evm_model.specs.Laws.{OthersStay, BoxesCombine, OneNameChanges, ToggleChangesOne};
+ghost use Rattle.evm_model.specs.Laws.{ValuesFollowFormulas, FormulasDetermineValues, ReachingFollowsFormulas, NoneReachesItself};
+ghost use Rattle.evm_model.specs.Laws.{OperandsStand, DimIsOfValue, ValuesAreCellSets};
+ghost use Rattle.evm_model.specs.Laws.{OthersStay, OthersStand, InputsStartEmpty, BoxesCombine, DefinitionsHold, DropsTakeOut};
+ghost use Rattle.evm_model.specs.Laws.{ChangedReachName, NewNamesChangeNone, DropsChangeNone, OneNameChanges};
+ghost use Rattle.evm_model.specs.Laws.{SameFigureStays, ToggleChangesName, ToggleCountsName};
 ghost use Rattle.evm_model.specs.Laws.{OneReplyEach, FrontOfRun, LaterLinesWait, LinesHaveNoLf, LinesMakeScript};
 
 /// Replies and their texts.
@@ -27,7 +35,7 @@ pub fn replies_show_refusals()
 ///
 /// - `refused`: a refused line leaves the scene.
 /// - `memory`: no step answers want of memory.
-/// - `start`, `well`: in each scene of a run names differ, dimensions are 2 to 6, and each input is a cell set of its dimension.
+/// - `start`, `well`: each scene of a run is well.
 pub fn steps_keep_scenes()
     ensures refused { RefusalChangesNothing }
     ensures memory { StepHasMemory }
@@ -35,19 +43,59 @@ pub fn steps_keep_scenes()
     ensures well { StepsKeepWell }
 {}
 
-/// What an edit changes.
+/// What holds in each well scene, and so in each scene of a run.
 ///
-/// - `others`: the values of all names but its own stay.
+/// - `values`: the value of an input is its cells, and that of a formula is what it makes of the values of its operands.
+/// - `only`: nothing else follows the formulas, so that they determine the values.
+/// - `reaching`: a name reaches what it reads, what that reaches, and no more.
+/// - `cycles`: no name reaches itself.
+/// - `operands`: what a name reads stands.
+/// - `dim`: the dimension of a name is that of its value.
+/// - `cells`: each value is a cell set.
+pub fn values_follow_formulas()
+    ensures values { ValuesFollowFormulas }
+    ensures only { FormulasDetermineValues }
+    ensures reaching { ReachingFollowsFormulas }
+    ensures cycles { NoneReachesItself }
+    ensures operands { OperandsStand }
+    ensures dim { DimIsOfValue }
+    ensures cells { ValuesAreCellSets }
+{}
+
+/// What an edit makes of its name, and what it leaves.
+///
+/// - `others`: the values of names stay that are not the edited one and do not reach it.
+/// - `stand`: an edit makes and takes out no other name.
+/// - `input`: a new input has no cell.
 /// - `own`: `toggle`, `add` and `cut` make the exclusive or, the union and the difference with the box.
-/// - `count`: where a name gets another figure, that name changes and no other, or none where the figure is the same.
-/// - `toggle`: a toggle that is not refused always changes its name.
+/// - `formula`: `def` makes what the formula makes of the values that its operands have, and keep.
+/// - `dropped`: after `drop` the name does not stand.
 /// - `same`: two figures are the same exactly where they are equal.
-pub fn edits_change_one_name()
+pub fn edits_change_their_names()
     ensures others { OthersStay }
+    ensures stand { OthersStand }
+    ensures input { InputsStartEmpty }
     ensures own { BoxesCombine }
-    ensures count { OneNameChanges }
-    ensures toggle { ToggleChangesOne }
+    ensures formula { DefinitionsHold }
+    ensures dropped { DropsTakeOut }
     ensures same { SameIsEqual }
+{}
+
+/// How many names an edit changes.
+///
+/// - `reach`: none but its own and those that reach it.
+/// - `made`, `dropped`: an edit that makes its name or takes it out changes no name.
+/// - `one`: another figure under a name that no formula reads changes that name alone, or none where the figure is the same.
+/// - `stays`: the figure that a name has already changes no value at all.
+/// - `toggle`, `toggled`: a toggle that is not refused changes its name, and so counts at least one.
+pub fn changes_are_counted()
+    ensures reach { ChangedReachName }
+    ensures made { NewNamesChangeNone }
+    ensures dropped { DropsChangeNone }
+    ensures one { OneNameChanges }
+    ensures stays { SameFigureStays }
+    ensures toggle { ToggleChangesName }
+    ensures toggled { ToggleCountsName }
 {}
 
 /// Runs go line by line.

@@ -1,5 +1,5 @@
 -- Answers to questions, as the model states them.
-use Rattle.std.proofs.Common.{◌≡◌, ℕ, ◌-◌, ◌==◌, Bool, true, false, ◌&&◌, cond, List, take, length, ℤ, pos, neg_ℤ, ◌-ℤ◌, ◌≤ℤ◌, int_le, int_lt, codes, decimal, ◌++◌, refl, sym, ap, ◌∙◌, subst, arith}
+use Rattle.std.proofs.Common.{◌≡◌, ℕ, ◌==◌, Bool, true, false, ◌&&◌, cond, List, length, ℤ, pos, neg_ℤ, ◌-ℤ◌, int_le, int_lt, codes, decimal, ◌++◌, refl, ap, ◌∙◌, arith}
 use Rattle.std.specs.List.{list_all}
 use Rattle.std.proofs.lemmas.Bool.Decides.{Decides-eqb}
 use Rattle.std.proofs.lemmas.Int.{ints}
@@ -14,8 +14,8 @@ use Rattle.evm_rows.specs.Rows.{Vertices}
 use Rattle.evm_member.specs.Place.{place_of}
 use Rattle.evm_member.specs.declared.outcome.Place.TheVariants as places
 use Rattle.evm_model.specs.Figures as figures
-use Rattle.evm_model.specs.Replies.{Reply, Measured, Filled, Placed, line_of, reply_text}
-use Rattle.evm_session.specs.Fields.{figure_of}
+use Rattle.evm_model.specs.Replies.{Measured, line_of, reply_text}
+use Rattle.evm_scene.specs.Tables.{figure_of}
 use Rattle.evm_session.specs.Numbers.{is_between}
 use Rattle.evm_session.specs.Questions.{place_view}
 
@@ -59,6 +59,12 @@ between_cells n numbers low high l h =
     ap (λ (x : ℤ). list_all (is_between x high) numbers) l
     ∙ ap (λ (x : ℤ). list_all (is_between (neg_ℤ (pos (limit n))) x) numbers) h
     ∙ ap (λ (t : ℤ → Bool). list_all t numbers) (λ i x. int_le (neg_ℤ (pos (limit n))) x && below_next x (pos (limit n)) i)
+
+-- numbers in the limits of points
+pub between_points : (n : ℕ) (numbers : List ℤ) (low high : ℤ) → low ≡ neg_ℤ (pos (limit n)) → high ≡ pos (limit n) → list_all (is_between low high) numbers ≡ list_all (is_point_coord n) numbers
+unfolding is_point_coord
+between_points n numbers low high l h =
+    ap (λ (x : ℤ). list_all (is_between x high) numbers) l ∙ ap (λ (x : ℤ). list_all (is_between (neg_ℤ (pos (limit n))) x) numbers) h
 
 -- coordinates that are as many as the dimension, and in the limits
 pub is_a_cell : (n m : ℕ) (numbers place : List ℤ) → place ≡ numbers → length numbers ≡ n → m ≡ n → list_all (is_cell_coord n) numbers ≡ true → is_cell m place ≡ true

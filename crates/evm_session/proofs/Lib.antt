@@ -1,7 +1,5 @@
-pub mod Entries
 pub mod Rows
 pub mod Turns
-pub mod Combining
-pub mod Corners
 pub mod Answering
 pub mod Lines
+pub mod Listing

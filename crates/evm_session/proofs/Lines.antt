@@ -1,5 +1,5 @@
 -- Lines that are no commands, and blank ones.
-use Rattle.std.proofs.Common.{◌≡◌, ℕ, List, [], ◌∷◌, ◌++◌, Result, Ok, Err, IsErrAnd, refl, sym, ap, ◌∙◌, subst}
+use Rattle.std.proofs.Common.{◌≡◌, ℕ, List, [], ◌∷◌, ◌++◌, Result, Ok, Err, refl, sym, ap, subst}
 use Rattle.evm_script.specs.Line.{command, Reads}
 use Rattle.evm_script.specs.declared.command.Command.{Command}
 use Rattle.evm_script.specs.declared.command.Command.TheVariants as commands
@@ -7,7 +7,7 @@ use Rattle.evm_script.specs.declared.command.LineError.{LineError}
 use Rattle.evm_script.specs.declared.command.LineError.TheVariants as lines
 use Rattle.evm_model.specs.Scene.{Scene}
 use Rattle.evm_model.specs.Replies.{Empty, reply_text}
-use Rattle.evm_model.specs.Steps.{Turn, turn_of, line_turn, step, stays}
+use Rattle.evm_model.specs.Steps.{turn_of, line_turn, step, stays}
 use Rattle.evm_session.specs.declared.refusals.Refusal.{Refusal}
 use Rattle.evm_session.specs.Refusals.{of_line_error}
 use Rattle.evm_session.specs.Carried.{Carries}
@@ -33,7 +33,6 @@ by_error lines.Syntax scene before line h = (step_of scene line (Err lines.Synta
 by_error lines.NoMemory scene before line h = (tt, extends_itself before, refl)
 
 -- a line that is no command is refused
-pub no_command : (r : Result (Unit {0}) Refusal) (e : LineError) (scene : Scene) (before line : List ℕ) → IsErrAnd r (λ x. x ≡ of_line_error e) → Reads (Err e) (command line) → Carries r scene scene before before (step scene line)
-no_command (Ok done) e scene before line f h = absurd f
-no_command (Err x) e scene before line f h =
+pub no_command : (refusal : Refusal) (e : LineError) (scene : Scene) (before line : List ℕ) → refusal ≡ of_line_error e → Reads (Err e) (command line) → Carries (Err refusal) scene scene before before (step scene line)
+no_command refusal e scene before line f h =
     subst (λ (y : Refusal). Carries (Err y) scene scene before before (step scene line)) (sym f) (by_error e scene before line h)

@@ -1,15 +1,14 @@
 -- Rows as text.
-use Rattle.std.proofs.Common.{◌≡◌, ℕ, ◌+◌, ◌<◌, ◌≤◌, List, [], ◌∷◌, ◌++◌, map, take, drop, get_or, length, flat_map, ℤ, IsErr, Result, Ok, Err, codes, decimal, subst, refl, sym, ap, ◌∙◌, arith}
-use Rattle.std.specs.List.{join_with_byte}
+use Rattle.std.proofs.Common.{◌≡◌, ℕ, ◌+◌, ◌<◌, ◌≤◌, List, [], ◌∷◌, ◌++◌, take, drop, get_or, length, ℤ, IsErr, Result, Ok, Err, codes, decimal, subst, refl, sym, ap, ◌∙◌, arith}
 use Rattle.std.specs.Fmt.{signed_decimal}
 use Rattle.std.proofs.lemmas.Bool.{false≢true}
 use Rattle.std.proofs.lemmas.List.{append_assoc, take_more, take_at, take-take, take-append-drop, length-append}
 use Rattle.std.proofs.Math.Seq.{take-length}
 use Rattle.std.proofs.lemmas.Grind.{flat_map-append}
-use Rattle.evm_model.specs.Replies.{Shown, line_of, spaced, rows_text, reply_text}
+use Rattle.evm_model.specs.Replies.{Changed, Shown, line_of, spaced, rows_text, reply_text}
 use Rattle.evm_model.specs.Figures.{vertices_in}
 use Rattle.evm_cells.specs.Vertices.{evm, cells}
-use Rattle.evm_session.specs.Fields.{figure_of}
+use Rattle.evm_scene.specs.Tables.{figure_of}
 use Rattle.evm_session.specs.Says.{Extends, Says, behind_spaces}
 use Rattle.evm_rows.specs.Rows.{Vertices, rows_of}
 use Rattle.evm_rows.specs.declared.solid.NoMemory.{NoMemory}
@@ -99,3 +98,10 @@ says_shown v r dim count before a b c d header now vertices n k ea eb ec ed eh h
     ∙ ap (λ (rows : List (List ℤ)). numbers (decimal v.dim) (decimal (length rows)) ++ rows_text rows) vertices in
     subst (λ (t : List ℕ). Says r before now t) text
     (says_after r before header now (numbers (decimal dim) (decimal count)) (rows_text v.rows) first h)
+
+-- the reply to an edit
+pub changed_said : (n : ℕ) (before a b now : List ℕ) → a ≡ before ++ codes "ok " → b ≡ a ++ decimal n → now ≡ b ++ 10 ∷ [] → now ≡ before ++ reply_text (Changed n)
+unfolding reply_text
+changed_said n before a b now ea eb en =
+    en ∙ ap (λ (t : List ℕ). t ++ 10 ∷ []) (eb ∙ ap (λ (t : List ℕ). t ++ decimal n) ea)
+    ∙ simp append_assoc

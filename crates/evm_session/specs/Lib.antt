@@ -1,8 +1,7 @@
-pub mod Fields
 pub mod Numbers
 pub mod Says
 pub mod Answers
 pub mod Refusals
-pub mod BoxEdits
 pub mod Questions
+pub mod Listed
 pub mod Carried

@@ -1,12 +1,16 @@
 //! A session: answers the lines of a script, one after another.
 //!
-//! A session holds named inputs, each a solid of 2 to 6 dimensions. `input` makes one without cells, `toggle`, `add` and `cut`
-//! change one by a box, and `show`, `content`, `boundary`, `at` and `point` ask about one. The contracts speak of a session as
-//! a scene of `evm_model`, whose `step` says for each scene and line what the reply is and what the scene is after it: the
-//! vertices, measures and places there are those of sets of unit cells.
+//! A session holds a scene: names of solids of 2 to 6 dimensions, each an input or a formula over other names. `input` makes an
+//! input without cells, `toggle`, `add` and `cut` change one by a box, `def` makes or changes a formula, and `drop` takes a name
+//! out. `show`, `content`, `boundary`, `at` and `point` ask about one name, and `list` about all. The contracts speak of a
+//! session as a scene of `evm_model`, whose `step` says for each scene and line what the reply is and what the scene is after
+//! it: the vertices, measures and places there are those of sets of unit cells.
 //!
-//! All that can fail comes before a session changes: the new solid is made and the reply is written first. A line takes memory
-//! for its words, for one solid and what makes it, and for its reply, at most 8 bytes a coordinate of `show`.
+//! The scene keeps the solid of each name. So a question copies no solid, and an edit of a name carries its change through the
+//! names that read it, by formulas of formulas too, and through no other. All that can fail comes before a session changes: an
+//! edit's reply has its room before the scene makes the edit. A line takes memory for its words, for the solids that its edit
+//! makes anew or what its question counts with, and for its reply: at most 8 bytes a coordinate of `show`, and about 250 bytes
+//! a name of `list`.
 #![tactic(auto)]
 
 ghost use Rattle.std.specs.Prelude.{◌≡◌, IfOk};
@@ -19,7 +23,7 @@ use std::marker::Model;
 
 mod answers;
 mod edits;
-mod inputs;
+mod lists;
 mod numbers;
 mod questions;
 mod refusals;
@@ -27,12 +31,12 @@ mod replies;
 
 use answers::answer;
 pub use evm_rows::NoMemory;
-use inputs::Inputs;
+use evm_scene::Scene;
 
-/// The inputs that the lines so far have made, in their order. Contracts see a scene.
+/// The names that the lines so far have made, with their solids. Contracts see a scene.
 #[derive(Drop)]
 pub struct Session {
-    inputs: Inputs,
+    scene: Scene,
 }
 
 impl Model for Session {
@@ -40,7 +44,7 @@ impl Model for Session {
 
     ghost Value = { Scene };
 
-    ghost view = { λ s. s.inputs };
+    ghost view = { λ s. s.scene };
 }
 
 impl Session {
@@ -49,7 +53,7 @@ impl Session {
         ensures { IfOk result (λ made. made ≡ start) }
     {
         Ok(Session {
-            inputs: Inputs::new(alloc),
+            scene: Scene::new(alloc)?,
         })
     }
 
@@ -66,7 +70,7 @@ impl Session {
     ) -> Result<bool, NoMemory>
         ensures { Answers result self.old self.new out.old.items out.new.items (step self.old line.now) }
     {
-        answer(&mut self.inputs, alloc, line, out)
+        answer(&mut self.scene, alloc, line, out)
     }
 }
 

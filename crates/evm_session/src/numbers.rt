@@ -1,23 +1,10 @@
-//! Numbers of a line as dimensions and coordinates.
+//! Numbers of a line as coordinates.
 
-ghost use Rattle.std.specs.Prelude.{◌≡◌, ◌≤◌, pos, nat_abs, length, take, true, false, MatchOption};
+ghost use Rattle.std.specs.Prelude.{◌≡◌, ◌≤◌, length, take, true, false, MatchOption};
 ghost use Rattle.std.specs.List.{list_all};
-ghost use Rattle.evm_model.specs.Scene.{is_dim};
 ghost use Rattle.evm_session.specs.Numbers.{is_between};
 
-use evm_script::{NUMS_MAX, Num};
-
-/// The dimension that a number states, or `None` exactly where named solids have no such dimension.
-pub fn dim_of(dim: &Num) -> Option<usize>
-    ensures { MatchOption result (is_dim dim.now ≡ false) (λ d. (is_dim dim.now ≡ true) × (dim.now ≡ pos d)) }
-{
-    let n = dim.value();
-    if 2 <= n && n <= 6 {
-        Some(n as usize)
-    } else {
-        None
-    }
-}
+use evm_script::NUMS_MAX;
 
 /// A number as a coordinate, or `None` exactly where it is not from `low` to `high`.
 fn coordinate(n: i64, low: i32, high: i32) -> Option<i32>

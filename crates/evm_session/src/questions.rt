@@ -6,21 +6,21 @@ ghost use Rattle.evm_session.specs.Carried.{Carries};
 ghost use Rattle.evm_session.specs.Questions.{filled_text, placed_text};
 ghost use Rattle.evm_script.specs.declared.command.Command.TheVariants as commands;
 
-use super::inputs::Inputs;
 use super::numbers::coordinates;
 use super::refusals::Refusal;
 use super::replies::{say, say_number, say_solid};
 use evm_measure as measure;
 use evm_member::{Place, fills, place};
 use evm_rows::limit;
+use evm_scene::Scene;
 use evm_script::{Name, Nums};
 use std::alloc::Global;
 
 /// The extreme vertices.
-pub fn show(inputs: &Inputs, name: &Name, out: &mut Vec<u8>) -> Result<(), Refusal>
-    ensures { Carries result inputs.now inputs.now out.old.items out.new.items (turn_of inputs.now (commands.Show name.now)) }
+pub fn show(scene: &Scene, name: &Name, out: &mut Vec<u8>) -> Result<(), Refusal>
+    ensures { Carries result scene.now scene.now out.old.items out.new.items (turn_of scene.now (commands.Show name.now)) }
 {
-    let Some(solid) = inputs.solid(name) else {
+    let Some(solid) = scene.kept(name) else {
         return Err(Refusal::Name);
     };
     say_solid(out, solid)?;
@@ -28,15 +28,10 @@ pub fn show(inputs: &Inputs, name: &Name, out: &mut Vec<u8>) -> Result<(), Refus
 }
 
 /// The number of cells.
-pub fn content(
-    inputs: &Inputs,
-    alloc: Global,
-    name: &Name,
-    out: &mut Vec<u8>,
-) -> Result<(), Refusal>
-    ensures { Carries result inputs.now inputs.now out.old.items out.new.items (turn_of inputs.now (commands.Content name.now)) }
+pub fn content(scene: &Scene, alloc: Global, name: &Name, out: &mut Vec<u8>) -> Result<(), Refusal>
+    ensures { Carries result scene.now scene.now out.old.items out.new.items (turn_of scene.now (commands.Content name.now)) }
 {
-    let Some(solid) = inputs.solid(name) else {
+    let Some(solid) = scene.kept(name) else {
         return Err(Refusal::Name);
     };
     let cells = measure::content(alloc, solid.rows())?;
@@ -45,15 +40,10 @@ pub fn content(
 }
 
 /// The number of faces between a cell and a place that is no cell.
-pub fn boundary(
-    inputs: &Inputs,
-    alloc: Global,
-    name: &Name,
-    out: &mut Vec<u8>,
-) -> Result<(), Refusal>
-    ensures { Carries result inputs.now inputs.now out.old.items out.new.items (turn_of inputs.now (commands.Boundary name.now)) }
+pub fn boundary(scene: &Scene, alloc: Global, name: &Name, out: &mut Vec<u8>) -> Result<(), Refusal>
+    ensures { Carries result scene.now scene.now out.old.items out.new.items (turn_of scene.now (commands.Boundary name.now)) }
 {
-    let Some(solid) = inputs.solid(name) else {
+    let Some(solid) = scene.kept(name) else {
         return Err(Refusal::Name);
     };
     let faces = measure::boundary(alloc, solid.rows())?;
@@ -62,10 +52,10 @@ pub fn boundary(
 }
 
 /// Whether a cell is filled.
-pub fn at(inputs: &Inputs, name: &Name, nums: &Nums, out: &mut Vec<u8>) -> Result<(), Refusal>
-    ensures { Carries result inputs.now inputs.now out.old.items out.new.items (turn_of inputs.now (commands.At name.now nums.now)) }
+pub fn at(scene: &Scene, name: &Name, nums: &Nums, out: &mut Vec<u8>) -> Result<(), Refusal>
+    ensures { Carries result scene.now scene.now out.old.items out.new.items (turn_of scene.now (commands.At name.now nums.now)) }
 {
-    let Some(solid) = inputs.solid(name) else {
+    let Some(solid) = scene.kept(name) else {
         return Err(Refusal::Name);
     };
     solid.facts();
@@ -95,10 +85,10 @@ fn filled_text(filled: bool) -> &'static [u8]
 }
 
 /// Where a point stands.
-pub fn point(inputs: &Inputs, name: &Name, nums: &Nums, out: &mut Vec<u8>) -> Result<(), Refusal>
-    ensures { Carries result inputs.now inputs.now out.old.items out.new.items (turn_of inputs.now (commands.Point name.now nums.now)) }
+pub fn point(scene: &Scene, name: &Name, nums: &Nums, out: &mut Vec<u8>) -> Result<(), Refusal>
+    ensures { Carries result scene.now scene.now out.old.items out.new.items (turn_of scene.now (commands.Point name.now nums.now)) }
 {
-    let Some(solid) = inputs.solid(name) else {
+    let Some(solid) = scene.kept(name) else {
         return Err(Refusal::Name);
     };
     solid.facts();

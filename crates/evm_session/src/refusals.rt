@@ -2,10 +2,11 @@
 
 ghost use Rattle.std.specs.Prelude.{◌≡◌};
 ghost use Rattle.evm_model.specs.Replies.{No, reply_text};
-ghost use Rattle.evm_session.specs.Refusals.{code_of, of_box_error, of_line_error};
+ghost use Rattle.evm_session.specs.Refusals.{code_of, of_line_error, of_scene_refusal};
 ghost use Rattle.evm_session.specs.declared.refusals.Refusal.TheVariants as refusals;
 
-use evm_rows::{BoxError, NoMemory};
+use evm_rows::NoMemory;
+use evm_scene as scene;
 use evm_script::LineError;
 
 /// Why a line is refused, or that memory was missing.
@@ -17,9 +18,15 @@ pub enum Refusal {
     Syntax,
     /// The name does not stand.
     Name,
-    /// The name stands already.
+    /// The name of a new input stands already.
     Taken,
-    /// Named solids have no such dimension, or there are not as many numbers as the dimension asks for.
+    /// A box edit of a formula, or a definition of an input.
+    Kind,
+    /// The name is an operand of a formula.
+    Used,
+    /// The formula would reach its own name through its operands.
+    Cycle,
+    /// Named solids have no such dimension, operands differ in it, or there are not as many numbers as it asks for.
     Dim,
     /// A number is past the limits, or a box has no room on an axis.
     Range,
@@ -35,13 +42,19 @@ impl From<NoMemory> for Refusal {
     }
 }
 
-impl From<BoxError> for Refusal {
-    ghost from_gives = { λ e r. r ≡ of_box_error e };
+impl From<scene::Refusal> for Refusal {
+    ghost from_gives = { λ e r. r ≡ of_scene_refusal e };
 
-    fn from(e: BoxError) -> Refusal {
+    fn from(e: scene::Refusal) -> Refusal {
         match e {
-            BoxError::Range => Refusal::Range,
-            BoxError::NoMemory => Refusal::NoMemory,
+            scene::Refusal::Name => Refusal::Name,
+            scene::Refusal::Taken => Refusal::Taken,
+            scene::Refusal::Kind => Refusal::Kind,
+            scene::Refusal::Used => Refusal::Used,
+            scene::Refusal::Cycle => Refusal::Cycle,
+            scene::Refusal::Dim => Refusal::Dim,
+            scene::Refusal::Range => Refusal::Range,
+            scene::Refusal::NoMemory => Refusal::NoMemory,
         }
     }
 }
@@ -69,6 +82,9 @@ impl Refusal {
             Refusal::Syntax => b"no syntax\n",
             Refusal::Name => b"no name\n",
             Refusal::Taken => b"no taken\n",
+            Refusal::Kind => b"no kind\n",
+            Refusal::Used => b"no used\n",
+            Refusal::Cycle => b"no cycle\n",
             Refusal::Dim => b"no dim\n",
             Refusal::Range => b"no range\n",
             Refusal::NoMemory => b"no memory\n",

@@ -1,10 +1,10 @@
 //! Appends replies. Where memory ends, a part of a reply may stand behind what was there.
 
-ghost use Rattle.std.specs.Prelude.{◌≡◌, ◌++◌, ◌∷◌, [], ◌<◌, codes, decimal, length};
+ghost use Rattle.std.specs.Prelude.{◌≡◌, ◌++◌, ◌∷◌, [], ◌+◌, ◌<◌, ◌≤◌, codes, decimal, length, OnOk, vec_len, vec_capacity};
 ghost use Rattle.std.specs.Fmt.{signed_decimal};
-ghost use Rattle.evm_model.specs.Replies.{line_of, spaced, rows_text, reply_text, Shown};
+ghost use Rattle.evm_model.specs.Replies.{line_of, spaced, rows_text, reply_text, Changed, Shown};
 ghost use Rattle.evm_rows.specs.View.{vertices_of};
-ghost use Rattle.evm_session.specs.Fields.{figure_of};
+ghost use Rattle.evm_scene.specs.Tables.{figure_of};
 ghost use Rattle.evm_session.specs.Says.{Says, behind_spaces};
 
 use evm_rows::{NoMemory, Rows, Solid, split_row};
@@ -19,7 +19,7 @@ pub fn say(out: &mut Vec<u8>, text: &[u8]) -> Result<(), NoMemory>
 }
 
 /// Appends a count in decimal.
-fn say_count(out: &mut Vec<u8>, count: u128) -> Result<(), NoMemory>
+pub fn say_count(out: &mut Vec<u8>, count: u128) -> Result<(), NoMemory>
     ensures { Says result out.old.items out.new.items (decimal count) }
 {
     let mut digits = Buffer::new();
@@ -41,6 +41,41 @@ pub fn say_number(out: &mut Vec<u8>, n: u128) -> Result<(), NoMemory>
     say(out, b"ok ")?;
     say_count(out, n)?;
     say(out, b"\n")
+}
+
+/// The most bytes of the reply to an edit: `ok `, 20 digits and LF.
+const CHANGED_BYTES: usize = 24;
+
+/// Reserves the room for the reply to an edit.
+pub fn reserve_changed(out: &mut Vec<u8>) -> Result<(), NoMemory>
+    ensures items { out.new.items ≡ out.old.items }
+    ensures room { OnOk result (vec_len out.new + CHANGED_BYTES ≤ vec_capacity out.new) }
+{
+    out.reserve(CHANGED_BYTES)?;
+    Ok(())
+}
+
+/// Appends a text for which there is room.
+fn put(out: &mut Vec<u8>, text: &[u8])
+    requires { vec_len out.old + length text.now ≤ vec_capacity out.old }
+    ensures items { out.new.items ≡ out.old.items ++ text.now }
+    ensures len { vec_len out.new ≡ vec_len out.old + length text.now }
+    ensures room { vec_capacity out.old ≤ vec_capacity out.new }
+{
+    if out.extend_from_slice(text).is_err() {
+        unreachable!()
+    }
+}
+
+/// Appends the reply to an edit that changed so many names, where its room was reserved. Takes no memory.
+pub fn put_changed(out: &mut Vec<u8>, names: usize)
+    requires { vec_len out.old + CHANGED_BYTES ≤ vec_capacity out.old }
+    ensures { out.new.items ≡ out.old.items ++ reply_text (Changed names) }
+{
+    let mut digits = Buffer::new();
+    put(out, b"ok ");
+    put(out, digits.format(names).as_bytes());
+    put(out, b"\n");
 }
 
 /// Appends a coordinate behind a space.

@@ -1,10 +1,11 @@
-//! One session, asked by each command and refused by each code, with replies worked out by hand.
+//! Sessions, asked by each command and refused by each code, with replies worked out by hand.
 
 use super::Session;
+use std::process::Abort;
 use std::test::Fail;
 
-/// Lines and their replies, in order. Boxes of two dimensions: 2 by 3 at the origin, then 2 by 2 from (1, 1).
-const ANSWERED: [(&str, &str); 28] = [
+/// Lines and their replies, in order, as in each table here: boxes of two dimensions, 2 by 3 at the origin, then 2 by 2 from (1, 1).
+const BOXES: [(&str, &str); 28] = [
     ("input a 2", "ok 0\n"),
     ("toggle a 0 0 2 3", "ok 1\n"),
     ("show a", "ok 2 4\n0 0\n0 3\n2 0\n2 3\n"),
@@ -35,18 +36,124 @@ const ANSWERED: [(&str, &str); 28] = [
     ("content a", "ok 7\n"),
 ];
 
-#[test]
-fn answers_each_command(rt: HostRuntime) -> Result<(), Fail> {
+/// Two squares that share one cell, and a formula over them that loses it.
+const SHARED: [(&str, &str); 10] = [
+    ("list", "ok 0\n"),
+    ("input a 2", "ok 0\n"),
+    ("add a 0 0 2 2", "ok 1\n"),
+    ("input b 2", "ok 0\n"),
+    ("add b 1 1 3 3", "ok 1\n"),
+    ("def c and a b", "ok 0\n"),
+    ("content c", "ok 1\n"),
+    ("list", "ok 3\na 2 input\nb 2 input\nc 2 and a b\n"),
+    ("cut b 1 1 2 2", "ok 2\n"),
+    ("show c", "ok 2 0\n"),
+];
+
+/// The same squares; formulas that would reach themselves.
+const CYCLES: [(&str, &str); 10] = [
+    ("input a 2", "ok 0\n"),
+    ("add a 0 0 2 2", "ok 1\n"),
+    ("input b 2", "ok 0\n"),
+    ("add b 1 1 3 3", "ok 1\n"),
+    ("def c and a b", "ok 0\n"),
+    ("def d or c a", "ok 0\n"),
+    ("def c or d a", "no cycle\n"),
+    ("def d or d a", "no cycle\n"),
+    ("content c", "ok 1\n"),
+    ("show d", "ok 2 4\n0 0\n0 2\n2 0\n2 2\n"),
+];
+
+/// A square and a formula, and a line for each cause of refusal.
+const CAUSES: [(&str, &str); 19] = [
+    ("input a 2", "ok 0\n"),
+    ("add a 0 0 2 2", "ok 1\n"),
+    ("def f or a a", "ok 0\n"),
+    ("add zz 5 5 1 1", "no name\n"),
+    ("def q and a zz", "no name\n"),
+    ("drop zz", "no name\n"),
+    ("input a 7", "no taken\n"),
+    ("input z 7", "no dim\n"),
+    ("add f 0 0 1 1", "no kind\n"),
+    ("def a or a a", "no kind\n"),
+    ("drop a", "no used\n"),
+    ("add a 0 0 0 1 1 1", "no dim\n"),
+    ("def q box 7 0 0 1 1", "no dim\n"),
+    ("add a 0 0 0 1", "no range\n"),
+    ("def q box 2 0 0 0 1", "no range\n"),
+    ("add a 524288 0 524289 1", "no range\n"),
+    ("fly a", "no syntax\n"),
+    ("add a 0 0 1 12345678901", "no syntax\n"),
+    ("content a", "ok 4\n"),
+];
+
+/// A formula that changes its operands to a name that was made after it, and one that is dropped.
+const REDEFINED: [(&str, &str); 11] = [
+    ("input a 2", "ok 0\n"),
+    ("add a 0 0 2 2", "ok 1\n"),
+    ("def c or a a", "ok 0\n"),
+    ("def d sub c a", "ok 0\n"),
+    ("content d", "ok 0\n"),
+    ("def e and a a", "ok 0\n"),
+    ("def c and e e", "ok 0\n"),
+    (
+        "list",
+        "ok 4\na 2 input\nc 2 and e e\nd 2 sub c a\ne 2 and a a\n",
+    ),
+    ("drop d", "ok 0\n"),
+    ("drop e", "no used\n"),
+    ("list", "ok 3\na 2 input\nc 2 and e e\ne 2 and a a\n"),
+];
+
+/// A formula over one name twice follows it, and a definition that changes a name counts it and what reads it.
+const FOLLOWED: [(&str, &str); 9] = [
+    ("input a 2", "ok 0\n"),
+    ("add a 0 0 2 2", "ok 1\n"),
+    ("def c and a a", "ok 0\n"),
+    ("toggle a 1 1 3 3", "ok 2\n"),
+    ("show c", "ok 2 8\n0 0\n0 2\n1 1\n1 3\n2 0\n2 2\n3 1\n3 3\n"),
+    ("def s box 2 -1 0 +1 1", "no syntax\n"),
+    ("def s box 2 -1 0 1 1", "ok 0\n"),
+    ("def c xor a s", "ok 1\n"),
+    ("list", "ok 3\na 2 input\nc 2 xor a s\ns 2 box 2 -1 0 1 1\n"),
+];
+
+/// Asks a new session.
+fn answers(rt: &(impl Abort + AllocGlobal), answered: &[(&str, &str)]) -> Result<(), Fail> {
     let mut session = Session::new(rt.alloc())?;
     let mut out = Vec::new(rt.alloc());
-    for (line, reply) in ANSWERED {
+    for (line, reply) in answered {
         out.clear();
         let fine = session.answer(rt.alloc(), line.as_bytes(), &mut out)?;
         assert_eq!(rt; out.as_slice(), reply.as_bytes(), "{line}");
         assert_eq!(rt; fine, !reply.starts_with("no"), "{line}");
     }
+    Ok(())
+}
+
+#[test]
+fn inputs_are_edited_and_asked(rt: HostRuntime) -> Result<(), Fail> {
+    answers(&rt, &BOXES)
+}
+
+#[test]
+fn formulas_follow_their_operands(rt: HostRuntime) -> Result<(), Fail> {
+    answers(&rt, &SHARED)?;
+    answers(&rt, &REDEFINED)?;
+    answers(&rt, &FOLLOWED)
+}
+
+#[test]
+fn formulas_are_refused_by_their_first_cause(rt: HostRuntime) -> Result<(), Fail> {
+    answers(&rt, &CYCLES)?;
+    answers(&rt, &CAUSES)
+}
+
+#[test]
+fn a_line_may_be_too_long(rt: HostRuntime) -> Result<(), Fail> {
+    let mut session = Session::new(rt.alloc())?;
+    let mut out = Vec::new(rt.alloc());
     let long = vec![in rt.alloc(); b' '; 4097]?;
-    out.clear();
     let fine = session.answer(rt.alloc(), long.as_slice(), &mut out)?;
     assert_eq!(rt; out.as_slice(), b"no line\n".as_slice());
     assert_eq!(rt; fine, false);

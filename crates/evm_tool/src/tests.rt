@@ -88,8 +88,53 @@ fn boxes_are_added_and_measured(rt: HostRuntime) -> Result<(), Fail> {
     Ok(())
 }
 
+/// Scripts with formulas, and the replies.
+const DEFINED: [(&str, &str); 4] = [
+    (
+        "input a 2 / add a 0 0 2 2 / input b 2 / add b 1 1 3 3 / def c and a b / content c / list / cut b 1 1 2 2 / show c",
+        "ok 0 / ok 1 / ok 0 / ok 1 / ok 0 / ok 1 / ok 3 / a 2 input / b 2 input / c 2 and a b / ok 2 / ok 2 0",
+    ),
+    (
+        "input a 2 / add a 0 0 2 2 / def c and a a / toggle a 1 1 3 3 / show c / at c 1 1 / content c",
+        "ok 0 / ok 1 / ok 0 / ok 2 / ok 2 8 / 0 0 / 0 2 / 1 1 / 1 3 / 2 0 / 2 2 / 3 1 / 3 3 / ok empty / ok 6",
+    ),
+    (
+        "input a 2 / add a 0 0 2 2 / def s box 2 0 1 3 3 / def d sub s a / content d / def s xor a a / list / content d / drop d / drop s / list",
+        "ok 0 / ok 1 / ok 0 / ok 0 / ok 4 / ok 2 / ok 3 / a 2 input / s 2 xor a a / d 2 sub s a / ok 0 / ok 0 / ok 0 / ok 1 / a 2 input",
+    ),
+    ("list / input a 6 / list", "ok 0 / ok 0 / ok 1 / a 6 input"),
+];
+
+#[test]
+fn formulas_follow_their_operands(rt: HostRuntime) -> Result<(), Fail> {
+    let alloc = rt.alloc();
+    for (script, replies) in DEFINED {
+        let (status, output) = run(alloc, lines_of(alloc, script)?.into_bytes())?;
+        let wanted = lines_of(alloc, replies)?;
+        assert_eq!(rt;
+            str::from_utf8(output.bytes()),
+            Ok(wanted.as_str()),
+            "at {script}"
+        );
+        assert_eq!(rt; status, Status::Done, "at {script}");
+    }
+    Ok(())
+}
+
 /// Scripts of which some lines are refused, and the replies.
-const REFUSED: [(&str, &str); 3] = [
+const REFUSED: [(&str, &str); 6] = [
+    (
+        "input a 2 / add a 0 0 2 2 / input b 2 / add b 1 1 3 3 / def c and a b / def d or c a / def c or d a / def d or d a / content c",
+        "ok 0 / ok 1 / ok 0 / ok 1 / ok 0 / ok 0 / no cycle / no cycle / ok 1",
+    ),
+    (
+        "input a 2 / add a 0 0 2 2 / def f or a a / add zz 5 5 1 1 / def q and a zz / input a 7 / input z 7 / add f 0 0 1 1 / def a or a a / drop a / add a 0 0 0 1 1 1 / add a 0 0 0 1 / add a 524288 0 524289 1 / fly a / add a 0 0 1 12345678901 / content a",
+        "ok 0 / ok 1 / ok 0 / no name / no name / no taken / no dim / no kind / no kind / no used / no dim / no range / no range / no syntax / no syntax / ok 4",
+    ),
+    (
+        "input a 2 / add a 0 0 2 2 / def c or a a / def d sub c a / content d / def e and a a / def c and e e / list / drop d / drop e",
+        "ok 0 / ok 1 / ok 0 / ok 0 / ok 0 / ok 0 / ok 0 / ok 4 / a 2 input / c 2 and e e / d 2 sub c a / e 2 and a a / ok 0 / no used",
+    ),
     (
         "input a 2 / add a 0 0 2 2 / add zz 5 5 1 1 / input a 7 / input z 7 / add a 0 0 0 1 1 1 / add a 0 0 0 1 / add a 524288 0 524289 1 / fly a / add a 0 0 1 12345678901 / content a",
         "ok 0 / ok 1 / no name / no taken / no dim / no dim / no range / no range / no syntax / no syntax / ok 4",

@@ -1,4 +1,4 @@
-use Rattle.evm_model.proofs.StepLaws.{mild_step, well_step}
+use Rattle.evm_model.proofs.StepLaws.{mild_step, well_start, well_step}
 use Rattle.evm_model.proofs.steps_keep_scenes.Goals as goal
 
 pub returns-clause-refused : goal.returns-clause-refused
@@ -6,6 +6,9 @@ returns-clause-refused c = λ scene line. (mild_step scene line).0
 
 pub returns-clause-memory : goal.returns-clause-memory
 returns-clause-memory c = λ scene line. (mild_step scene line).1
+
+pub returns-clause-start : goal.returns-clause-start
+returns-clause-start c = well_start
 
 pub returns-clause-well : goal.returns-clause-well
 returns-clause-well c = well_step

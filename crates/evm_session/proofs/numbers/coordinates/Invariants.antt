@@ -1,4 +1,4 @@
-use Rattle.std.proofs.Common.{◌≡◌, ◌≤◌, take, length, true}
+use Rattle.std.proofs.Common.{◌≡◌, take, length, true}
 use Rattle.std.specs.List.{list_all}
 use Rattle.evm_session.specs.Numbers.{is_between}
 use Rattle.evm_session.proofs.numbers.coordinates.Given as goal

@@ -1,4 +1,4 @@
-use Rattle.std.proofs.Common.{◌≡◌, ◌++◌, ◌==◌, List, ℕ, ℤ, Bool, true, false, pos, neg_ℤ, ◌-ℤ◌, take, length, to_z, of_z, w32, sym, ◌∙◌, refl, ap, subst, rules}
+use Rattle.std.proofs.Common.{◌≡◌, ◌++◌, ◌==◌, List, ℕ, ℤ, true, false, pos, neg_ℤ, ◌-ℤ◌, take, length, to_z, of_z, w32, sym, ◌∙◌, refl, ap, subst, rules}
 use Rattle.std.specs.List.{list_all}
 use Rattle.std.proofs.lemmas.Bool.Decides.{Decides-eqb}
 use Rattle.evm_cells.specs.Limits.{limit, is_cell_coord}
@@ -9,8 +9,7 @@ use Rattle.evm_model.specs.Figures.{Figure, fills}
 use Rattle.evm_model.specs.Scene.{value}
 use Rattle.evm_model.specs.Replies.{Filled}
 use Rattle.evm_session.specs.Questions.{filled_text}
-use Rattle.evm_session.specs.Numbers.{is_between}
-use Rattle.evm_session.proofs.Turns.{carried, place_by, value_found}
+use Rattle.evm_session.proofs.Turns.{carried, place_by}
 use Rattle.evm_session.proofs.Answering.{filled_found, between_cells, is_a_cell}
 use Rattle.evm_session.proofs.questions.at.Goals as goal
 
@@ -25,7 +24,7 @@ returns-in_default-coordinates c =
     (subst (λ (xs : List ℤ). list_all (is_cell_coord c.dim-dim.result) xs ≡ false) c.values.ensures.value
     (sym (between_cells c.dim-dim.result c.values.result.now _ _ low high) ∙ c.in_default-coordinates.ensures)) in
     let many : (length nums == v.dim) ≡ true = (Decides-eqb (length nums) v.dim).1 (sym c.len.ensures ∙ c.if-len-dim.false ∙ c.dim-dim.ensures) in
-    (place_by c.args.inputs.now c.args.name.now nums is_cell_coord v _ true false c.in-Some.ensures many out, refl, refl)
+    (place_by c.args.scene.now c.args.name.now nums is_cell_coord v.dim _ true false c.in-Some.ensures.value.0 c.in-Some.ensures.dim many out, refl, refl)
 
 pub fills-filled-requires : goal.fills-filled-requires
 fills-filled-requires c =
@@ -38,7 +37,7 @@ fills-filled-requires c =
 
 pub returns : goal.returns
 returns c =
-    let scene = c.args.inputs.now in
+    let scene = c.args.scene.now in
     let name = c.args.name.now in
     let v = c.in-Some.solid.now in
     let nums = c.args.nums.now in
@@ -53,7 +52,7 @@ returns c =
     let many : (length nums == v.dim) ≡ true = (Decides-eqb (length nums) v.dim).1 (sym c.len.ensures ∙ c.if-len-dim.false ∙ c.dim-dim.ensures) in
     let filled : c.fills-filled.result ≡ fills (value scene name) nums =
     filled_found v nums c.fills-filled.result (c.fills-filled.ensures ∙ ap (λ (a : Vertices). has (cells a.dim a.rows) (take c.dim-dim.result c.in-Some-coordinates.cell)) c.rows.ensures ∙ ap (has (cells v.dim v.rows)) place)
-    ∙ ap (λ (a : Figure). fills a nums) (sym (value_found scene name v c.in-Some.ensures)) in
+    ∙ ap (λ (a : Figure). fills a nums) c.in-Some.ensures.value.1 in
     let text = c.in_ok-say.ensures ∙ ap (λ (t : List ℕ). c.args.out.now.items ++ t) (c.filled_text.ensures ∙ ap filled_text filled) in
     carried scene scene c.args.out.now.items c.say.new.out.items (Filled (fills (value scene name) nums)) _
-    (place_by scene name nums is_cell_coord v _ true true c.in-Some.ensures many within) text refl
+    (place_by scene name nums is_cell_coord v.dim _ true true c.in-Some.ensures.value.0 c.in-Some.ensures.dim many within) text refl

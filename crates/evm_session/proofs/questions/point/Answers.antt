@@ -1,4 +1,4 @@
-use Rattle.std.proofs.Common.{◌≡◌, ◌++◌, ◌==◌, List, ℕ, ℤ, Bool, true, false, pos, neg_ℤ, ◌-ℤ◌, take, length, to_z, of_z, w32, sym, ◌∙◌, refl, ap, subst, rules}
+use Rattle.std.proofs.Common.{◌≡◌, ◌++◌, ◌==◌, List, ℕ, ℤ, true, false, pos, neg_ℤ, ◌-ℤ◌, take, length, to_z, of_z, w32, sym, ◌∙◌, refl, ap, subst, rules}
 use Rattle.std.specs.List.{list_all}
 use Rattle.std.proofs.lemmas.Bool.Decides.{Decides-eqb}
 use Rattle.evm_cells.specs.Limits.{limit, is_point_coord}
@@ -9,10 +9,9 @@ use Rattle.evm_model.specs.Figures.{Figure, Place, place_of}
 use Rattle.evm_model.specs.Scene.{value}
 use Rattle.evm_model.specs.Replies.{Placed, reply_text}
 use Rattle.evm_session.specs.Questions.{place_view}
-use Rattle.evm_session.specs.Numbers.{is_between}
-use Rattle.evm_session.proofs.Turns.{carried, place_by, value_found}
+use Rattle.evm_session.proofs.Turns.{carried, place_by}
 use Rattle.evm_session.proofs.Answering.{place_found, is_a_point}
-use Rattle.evm_session.proofs.Corners.{between_points}
+use Rattle.evm_session.proofs.Answering.{between_points}
 use Rattle.evm_session.proofs.questions.point.Goals as goal
 
 pub returns-in_default-coordinates : goal.returns-in_default-coordinates
@@ -26,7 +25,7 @@ returns-in_default-coordinates c =
     (subst (λ (xs : List ℤ). list_all (is_point_coord c.dim-dim.result) xs ≡ false) c.values.ensures.value
     (sym (between_points c.dim-dim.result c.values.result.now _ _ low high) ∙ c.in_default-coordinates.ensures)) in
     let many : (length nums == v.dim) ≡ true = (Decides-eqb (length nums) v.dim).1 (sym c.len.ensures ∙ c.if-len-dim.false ∙ c.dim-dim.ensures) in
-    (place_by c.args.inputs.now c.args.name.now nums is_point_coord v _ true false c.in-Some.ensures many out, refl, refl)
+    (place_by c.args.scene.now c.args.name.now nums is_point_coord v.dim _ true false c.in-Some.ensures.value.0 c.in-Some.ensures.dim many out, refl, refl)
 
 pub place-place-requires : goal.place-place-requires
 place-place-requires c =
@@ -39,7 +38,7 @@ place-place-requires c =
 
 pub returns : goal.returns
 returns c =
-    let scene = c.args.inputs.now in
+    let scene = c.args.scene.now in
     let name = c.args.name.now in
     let v = c.in-Some.solid.now in
     let nums = c.args.nums.now in
@@ -55,7 +54,7 @@ returns c =
     let placed : place_view c.place-place.result ≡ place_of (value scene name) nums =
     ap place_view (c.place-place.ensures ∙ ap (λ (a : Vertices). place_in a.dim (cells a.dim a.rows) (take c.dim-dim.result c.in-Some-coordinates.point)) c.rows.ensures ∙ ap (place_in v.dim (cells v.dim v.rows)) place)
     ∙ place_found v nums
-    ∙ ap (λ (a : Figure). place_of a nums) (sym (value_found scene name v c.in-Some.ensures)) in
+    ∙ ap (λ (a : Figure). place_of a nums) c.in-Some.ensures.value.1 in
     let text = c.in_ok-say.ensures ∙ ap (λ (t : List ℕ). c.args.out.now.items ++ t) (c.placed_text.ensures ∙ ap (λ (x : Place). reply_text (Placed x)) placed) in
     carried scene scene c.args.out.now.items c.say.new.out.items (Placed (place_of (value scene name) nums)) _
-    (place_by scene name nums is_point_coord v _ true true c.in-Some.ensures many within) text refl
+    (place_by scene name nums is_point_coord v.dim _ true true c.in-Some.ensures.value.0 c.in-Some.ensures.dim many within) text refl

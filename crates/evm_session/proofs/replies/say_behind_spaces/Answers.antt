@@ -1,4 +1,4 @@
-use Rattle.std.proofs.Common.{◌≡◌, ◌++◌, ◌∷◌, List, ℕ, take, get_or, ℤ, pos, to_z, of_z, w32, ap, ◌∙◌, rules}
+use Rattle.std.proofs.Common.{◌≡◌, ◌++◌, ◌∷◌, take, get_or, ℤ, pos, to_z, of_z, w32, ap, ◌∙◌, rules}
 use Rattle.std.specs.Fmt.{signed_decimal}
 use Rattle.evm_session.specs.Says.{behind_spaces}
 use Rattle.evm_session.proofs.Rows.{says_failed, extends_more, behind_spaces_step}

@@ -1,4 +1,4 @@
-use Rattle.std.proofs.Common.{◌≡◌, ◌++◌, ◌∷◌, [], List, ℤ, ◌∙◌, ap, to_z, of_z, w32, rules}
+use Rattle.std.proofs.Common.{◌≡◌, ◌++◌, ◌∷◌, [], ℤ, ◌∙◌, ap, to_z, of_z, w32, rules}
 use Rattle.std.specs.Fmt.{signed_decimal}
 use Rattle.evm_model.specs.Replies.{spaced}
 use Rattle.evm_session.proofs.Rows.{says_after, row_text}

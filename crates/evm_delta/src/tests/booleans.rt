@@ -1,0 +1,53 @@
+use crate::delta2;
+use evm_boolean::Op2;
+use evm_rows::{NoMemory, Solid};
+use std::alloc::Global;
+
+// The change of `op` where both operands are a square of side 2, the left one changes by a square of side 2 that begins in
+// its middle, and the right one likewise or not at all.
+fn change(alloc: Global, op: Op2, both: bool) -> Result<Solid, NoMemory> {
+    let Ok(a) = Solid::of_box(alloc, &[0, 0], &[2, 2]) else {
+        return Err(NoMemory);
+    };
+    let Ok(da) = Solid::of_box(alloc, &[1, 1], &[3, 3]) else {
+        return Err(NoMemory);
+    };
+    let none = Solid::empty(alloc, 2);
+    let db = if both { da.rows() } else { none.rows() };
+    delta2(alloc, op, a.rows(), da.rows(), a.rows(), db)
+}
+
+fn has_rows(solid: &Solid, rows: &[[i32; 2]]) -> bool {
+    if solid.dim() != 2 || solid.len() != rows.len() {
+        return false;
+    }
+    for (i, row) in rows.iter().enumerate() {
+        if solid.coord(i, 1) != row[0] || solid.coord(i, 2) != row[1] {
+            return false;
+        }
+    }
+    true
+}
+
+#[test]
+fn changes_booleans(rt: HostRuntime) {
+    let square: &[[i32; 2]] = &[[1, 1], [1, 3], [3, 1], [3, 3]];
+    let middle: &[[i32; 2]] = &[[1, 1], [1, 2], [2, 1], [2, 2]];
+    let corner: &[[i32; 2]] = &[[1, 2], [1, 3], [2, 1], [2, 2], [3, 1], [3, 3]];
+    let table: [(Op2, bool, &[[i32; 2]]); 8] = [
+        (Op2::Or, true, square),
+        (Op2::And, true, square),
+        (Op2::Sub, true, &[]),
+        (Op2::Xor, true, &[]),
+        (Op2::Or, false, corner),
+        (Op2::And, false, middle),
+        (Op2::Sub, false, corner),
+        (Op2::Xor, false, square),
+    ];
+    for (op, both, rows) in table {
+        let Ok(solid) = change(rt.alloc(), op, both) else {
+            panic!(rt; "there was no memory");
+        };
+        assert!(rt; has_rows(&solid, rows), "{op:?} {both}");
+    }
+}

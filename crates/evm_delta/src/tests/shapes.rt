@@ -1,0 +1,104 @@
+ghost use Rattle.evm_delta.specs.Shapes.{Fits};
+
+use crate::{DeltaError, Op1, delta1, shape};
+use evm_rows::Solid;
+use evm_script::Nums;
+use std::alloc::Global;
+
+// Whether the solid has these rows.
+fn has_rows(solid: &Solid, dim: usize, numbers: &[i32]) -> bool {
+    solid.dim() == dim && solid.rows().flat == numbers
+}
+
+// The shape of the cells (0, 0) and (1, 0), and its change where they become (0, 0) and (2, 0).
+fn change(alloc: Global, op: &Op1) -> Result<(Solid, Solid), DeltaError>
+    requires { Fits op.now 2 }
+{
+    let (Ok(a), Ok(da)) = (
+        Solid::of_box(alloc, &[0, 0], &[2, 1]),
+        Solid::of_box(alloc, &[1, 0], &[3, 1]),
+    ) else {
+        return Err(DeltaError::NoMemory);
+    };
+    let before = shape(alloc, op, a.rows())?;
+    let change = delta1(alloc, op, a.rows(), da.rows())?;
+    Ok((before, change))
+}
+
+// Whether the shape and its change have these rows.
+fn changes(alloc: Global, op: &Op1, dim: usize, before: &[i32], change_rows: &[i32]) -> bool
+    requires { Fits op.now 2 }
+{
+    match change(alloc, op) {
+        Ok((shaped, changed)) => {
+            has_rows(&shaped, dim, before) && has_rows(&changed, dim, change_rows)
+        }
+        Err(_) => false,
+    }
+}
+
+// Moves, with a shift whose change leaves the limits.
+#[tactic(auto, unfolding(evm_cells::specs::Limits::limit, evm_cells::specs::Shapes::is_shift))]
+fn moved(alloc: Global) -> (bool, bool, bool, bool) {
+    let near = Op1::Shift(Nums::within(&[1, 2]));
+    let far = Op1::Shift(Nums::within(&[524_286, 0]));
+    (
+        changes(
+            alloc,
+            &near,
+            2,
+            &[1, 2, 1, 3, 3, 2, 3, 3],
+            &[2, 2, 2, 3, 4, 2, 4, 3],
+        ),
+        change(alloc, &far).is_err_and(|e| e == DeltaError::Range),
+        changes(
+            alloc,
+            &Op1::Mirror(1),
+            2,
+            &[-2, 0, -2, 1, 0, 0, 0, 1],
+            &[-3, 0, -3, 1, -1, 0, -1, 1],
+        ),
+        changes(
+            alloc,
+            &Op1::Swap(1, 2),
+            2,
+            &[0, 0, 0, 2, 1, 0, 1, 2],
+            &[0, 1, 0, 3, 1, 1, 1, 3],
+        ),
+    )
+}
+
+// Cuts, projections and a prism. The projection along the first axis stays as it is.
+#[tactic(auto, unfolding(evm_cells::specs::Limits::limit, evm_cells::specs::Limits::is_point, evm_cells::specs::Limits::is_point_coord, evm_cells::specs::Limits::is_cell_coord, evm_cells::specs::Places::each))]
+fn cut(alloc: Global) -> (bool, bool, bool, bool, bool) {
+    let frame = Op1::Clip(Nums::within(&[0, 0, 2, 1]));
+    (
+        changes(
+            alloc,
+            &frame,
+            2,
+            &[0, 0, 0, 1, 2, 0, 2, 1],
+            &[1, 0, 1, 1, 2, 0, 2, 1],
+        ),
+        changes(alloc, &Op1::Slice(1, 2), 1, &[], &[0, 1]),
+        changes(alloc, &Op1::Proj(1), 1, &[0, 1], &[]),
+        changes(alloc, &Op1::Proj(2), 1, &[0, 2], &[1, 3]),
+        changes(
+            alloc,
+            &Op1::Lift(1, 5, 7),
+            3,
+            &[
+                5, 0, 0, 5, 0, 1, 5, 2, 0, 5, 2, 1, 7, 0, 0, 7, 0, 1, 7, 2, 0, 7, 2, 1,
+            ],
+            &[
+                5, 1, 0, 5, 1, 1, 5, 3, 0, 5, 3, 1, 7, 1, 0, 7, 1, 1, 7, 3, 0, 7, 3, 1,
+            ],
+        ),
+    )
+}
+
+#[test]
+fn changes_shapes(rt: HostRuntime) {
+    assert_eq!(rt; moved(rt.alloc()), (true, true, true, true));
+    assert_eq!(rt; cut(rt.alloc()), (true, true, true, true, true));
+}

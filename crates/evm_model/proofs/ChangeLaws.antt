@@ -1,0 +1,154 @@
+-- The values that an edit leaves under its name, and what changes where no formula reads the name.
+use Rattle.std.proofs.Common.{◌≡◌, ℕ, Bool, true, false, not, cond, ◌&&◌, ◌||◌, List, [], ◌∷◌, Option, Some, None, ℤ, refl, sym, ap, ◌∙◌, subst, is_some, bytes_eq}
+use Rattle.std.specs.Prelude.{nat_abs}
+use Rattle.std.specs.List.{list_any}
+use Rattle.std.proofs.lemmas.Bool.{false≢true}
+use Rattle.evm_script.specs.declared.formula.Formula.{Formula}
+use Rattle.evm_model.specs.Figures.{Figure, nothing, same_figure}
+use Rattle.evm_model.specs.Orders.{is_among}
+use Rattle.evm_model.specs.Scene.{Scene, Entry, Given, Made, entry_of, stands, operands_of, formula_value, value, entry_value, reaches, is_read, with_entry, with_figure, with_new, formula_dim, IsWell}
+use Rattle.evm_model.specs.Edits.{Edit, Input, Def, Drop, name_of, refusal, after, changed, changed_names}
+use Rattle.evm_model.proofs.Names.{by_name, by_test, not_both, or_left, neither, name_itself, none_passes, any_among, apart_back, among_none}
+use Rattle.evm_model.proofs.Lookups.{with_other, with_own, with_none, with_stands, without_own, push_own}
+use Rattle.evm_model.proofs.Levels.{formula_same, fixed_agree}
+use Rattle.evm_model.proofs.Counts.{changed_count}
+use Rattle.evm_model.proofs.FigureLaws.{same_itself}
+use Rattle.evm_model.proofs.WellScenes.{well_value, well_unique, well_reaches, well_from_none, well_operands, value_dim, value_cells}
+use Rattle.evm_model.proofs.WellEdits.{before_parts, well_figure, unread}
+use Rattle.evm_model.proofs.Refusals.{new_input, definition, drops}
+use Rattle.evm_model.proofs.EditLaws.{IsAt, well_edit, at_edit, others_stay, value_own, value_stays, at_figure}
+
+-- another name stands as it did
+pub others_stand : (scene : Scene) (edit : Edit) (other : List ℕ) → bytes_eq other (name_of edit) ≡ false → stands (after scene edit) other ≡ stands scene other
+others_stand scene edit other d = ap (λ (t : Option Entry). is_some t) ((at_edit scene edit).0 other d)
+
+-- a new input has no cell
+pub input_empty : (scene : Scene) (name : List ℕ) (dim : ℤ) → IsWell scene → refusal scene (Input name dim) ≡ None → value (after scene (Input name dim)) name ≡ nothing (nat_abs dim)
+unfolding nothing
+input_empty scene name dim well r =
+    well_value (after scene (Input name dim)) (well_edit scene (Input name dim) well r) name
+    ∙ ap (λ (t : Option Entry). entry_value t (value (after scene (Input name dim)))) (push_own scene.entries (record { name = name; dim = nat_abs dim; what = Given [] }) (new_input scene name dim r).fresh)
+
+-- a name has what its formula makes of the values of the operands, which stay
+formula_entry : (scene : Scene) (name : List ℕ) (formula : Formula) → entry_of (after scene (Def name formula)).entries name ≡ Some (record { name = name; dim = formula_dim scene formula; what = Made formula })
+formula_entry scene name formula = by (stands scene name) refl
+  where
+    new : Entry
+    new = record { name = name; dim = formula_dim scene formula; what = Made formula }
+
+    by : (b : Bool) → stands scene name ≡ b
+        → entry_of (cond {A = Scene} b (record { entries = with_entry scene.entries name new }) (with_new scene name (formula_dim scene formula) (Made formula))).entries name ≡ Some new
+    by true h = with_own scene.entries name new refl h
+    by false h = push_own scene.entries new h
+
+pub definition_holds : (scene : Scene) (name : List ℕ) (formula : Formula) → IsWell scene → refusal scene (Def name formula) ≡ None
+    → value (after scene (Def name formula)) name ≡ formula_value formula (value scene)
+definition_holds scene name formula well r =
+    well_value u (well_edit scene (Def name formula) well r) name
+    ∙ ap (λ (t : Option Entry). entry_value t (value u)) (formula_entry scene name formula)
+    ∙ formula_same formula (value u) (value scene)
+    (λ o m. let parts = before_parts scene name o ((definition scene name formula r).free o m) in others_stay scene (Def name formula) o well parts.0 parts.1)
+  where
+    u : Scene
+    u = after scene (Def name formula)
+
+-- a name that was taken out does not stand
+pub drop_gone : (scene : Scene) (name : List ℕ) → IsWell scene → stands (after scene (Drop name)) name ≡ false
+drop_gone scene name well = ap (λ (t : Option Entry). is_some t) (without_own scene.entries name well.names)
+
+-- a name that gets the figure that it has: all values stay
+pub same_keeps : (scene : Scene) (name other : List ℕ) → IsWell scene → value (with_figure scene name (value scene name)) other ≡ value scene other
+same_keeps scene name other well =
+    by_test (stands scene name)
+    (λ h. sym (well_unique u (well_figure scene name (value scene name) well (value_dim scene well name) (value_cells scene well name)) (value scene) (fixed h) other))
+    (λ h. ap (λ (s : Scene). value s other) (λ i. record { entries = with_none scene.entries name entry h i }))
+  where
+    entry : Entry
+    entry = record { name = name; dim = (value scene name).dim; what = Given (value scene name).cells }
+
+    u : Scene
+    u = with_figure scene name (value scene name)
+
+    fixed : stands scene name ≡ true → (x : List ℕ) → value scene x ≡ entry_value (entry_of u.entries x) (value scene)
+    fixed h x =
+        by_name x name
+        (λ e. subst (λ (z : List ℕ). value scene z ≡ entry_value (entry_of u.entries z) (value scene)) (sym e)
+        (sym (ap (λ (t : Option Entry). entry_value t (value scene)) (with_own scene.entries name entry refl h))))
+        (λ d. well_value scene well x ∙ ap (λ (t : Option Entry). entry_value t (value scene)) (sym (with_other scene.entries name x entry refl d)))
+
+-- a name that is no operand is not reached
+pub unread_unreached : (scene : Scene) (name x : List ℕ) → IsWell scene → ((y : List ℕ) → is_among name (operands_of scene.entries y) ≡ false) → reaches scene x name ≡ false
+unread_unreached scene name x well free =
+    by_test (stands scene x)
+    (λ h. fixed_agree (operands_of scene.entries) (λ y g. list_any g (operands_of scene.entries y)) (λ y. reaches scene y name) (λ y. false)
+    (λ y g k same. any_among g k (operands_of scene.entries y) same)
+    well.order well.ordered (λ y m. well_reaches scene well y name ∙ no_own y) (λ y m. sym (none_passes (λ o. false) (operands_of scene.entries y) (λ o l. refl))) x (well.whole x ∙ h))
+    (λ h. well_from_none scene well x name h)
+  where
+    no_own : (y : List ℕ) → list_any (λ o. bytes_eq o name || reaches scene o name) (operands_of scene.entries y) ≡ list_any (λ o. reaches scene o name) (operands_of scene.entries y)
+    no_own y =
+        any_among (λ o. bytes_eq o name || reaches scene o name) (λ o. reaches scene o name) (operands_of scene.entries y)
+        (λ o m. ap (λ (b : Bool). b || reaches scene o name) (apart_back name o (operands_of scene.entries y) (free y) m))
+
+-- where a name is no operand, another name has the same value after a change of its entry
+unread_other : (s : Scene) (name : List ℕ) (u : Scene) → IsWell s → IsAt s name u → ((y : List ℕ) → is_among name (operands_of s.entries y) ≡ false)
+    → (x : List ℕ) → bytes_eq x name ≡ false → (stands u x && not (same_figure (value s x) (value u x))) ≡ false
+unread_other s name u well at free x d =
+    ap (λ (a : Figure). stands u x && not (same_figure (value s x) a)) (value_stays s well name u at x d (unread_unreached s name x well free))
+    ∙ ap (λ (b : Bool). stands u x && not b) (same_itself (value s x))
+    ∙ and_no (stands u x)
+  where
+    and_no : (b : Bool) → (b && false) ≡ false
+    and_no true = refl
+    and_no false = refl
+
+-- where the name does not stand before and after, no name changes
+unread_none : (s : Scene) (name : List ℕ) (u : Scene) → IsWell s → IsAt s name u → ((y : List ℕ) → is_among name (operands_of s.entries y) ≡ false)
+    → (stands s name ≡ true → stands u name ≡ false) → changed_names s u ≡ 0
+unread_none s name u well at free gone =
+    changed_count s u [] well.names tt (λ x m. among_none x m)
+    (λ x h. by_name x name
+    (λ e. ap (λ (b : Bool). b && not (same_figure (value s x) (value u x))) (ap (λ (z : List ℕ). stands u z) e ∙ gone (sym (ap (λ (z : List ℕ). stands s z) e) ∙ h)))
+    (λ d. unread_other s name u well at free x d))
+
+-- an edit that makes its name changes no other
+pub new_changes_none : (scene : Scene) (edit : Edit) → IsWell scene → stands scene (name_of edit) ≡ false → changed scene edit ≡ 0
+new_changes_none scene edit well fresh =
+    unread_none scene (name_of edit) (after scene edit) well (at_edit scene edit)
+    (λ y. by_test (is_among (name_of edit) (operands_of scene.entries y)) (λ m. not_both (stands scene (name_of edit)) (well_operands scene well y (name_of edit) m) fresh) (λ m. m))
+    (λ h. not_both (stands scene (name_of edit)) h fresh)
+
+-- nor does one that takes it out
+pub drop_changes_none : (scene : Scene) (name : List ℕ) → IsWell scene → refusal scene (Drop name) ≡ None → changed scene (Drop name) ≡ 0
+drop_changes_none scene name well r =
+    unread_none scene name (after scene (Drop name)) well (at_edit scene (Drop name)) (unread scene name (drops scene name r).unread) (λ h. drop_gone scene name well)
+
+-- another figure under a name that is not read changes that name alone, if the figures differ
+pub unread_changes : (scene : Scene) (name : List ℕ) (new : Figure) → IsWell scene → stands scene name ≡ true → is_read scene name ≡ false
+    → changed_names scene (with_figure scene name new) ≡ cond (same_figure (value scene name) new) 0 1
+unread_changes scene name new well s free = by (same_figure (value scene name) new) refl
+  where
+    u : Scene
+    u = with_figure scene name new
+
+    own : (stands u name && not (same_figure (value scene name) (value u name))) ≡ not (same_figure (value scene name) new)
+    own =
+        ap (λ (b : Bool). b && not (same_figure (value scene name) (value u name))) (with_stands scene.entries name name (record { name = name; dim = new.dim; what = Given new.cells }) refl ∙ s)
+        ∙ ap (λ (a : Figure). not (same_figure (value scene name) a)) (value_own scene name new s)
+
+    other : (x : List ℕ) → bytes_eq x name ≡ false → (stands u x && not (same_figure (value scene x) (value u x))) ≡ false
+    other x d = unread_other scene name u well (at_figure scene name new) (unread scene name free) x d
+
+    at_name : (x : List ℕ) → x ≡ name → (stands u x && not (same_figure (value scene x) (value u x))) ≡ not (same_figure (value scene name) new)
+    at_name x e = ap (λ (z : List ℕ). stands u z && not (same_figure (value scene z) (value u z))) e ∙ own
+
+    by : (b : Bool) → same_figure (value scene name) new ≡ b → changed_names scene u ≡ cond b 0 1
+    by true k =
+        changed_count scene u [] well.names tt (λ x m. among_none x m)
+        (λ x h. by_name x name (λ e. at_name x e ∙ ap not k) (λ d. other x d))
+    by false k =
+        changed_count scene u (name ∷ []) well.names (refl, tt)
+        (λ x m. by_name x name (λ e. ap (λ (z : List ℕ). stands scene z) e ∙ s) (λ d. absurd (false≢true (sym (neither (bytes_eq x name) false d refl) ∙ m))))
+        (λ x h. by_name x name
+        (λ e. at_name x e ∙ ap not k ∙ sym (or_left (bytes_eq x name) false (ap (λ (z : List ℕ). bytes_eq z name) e ∙ name_itself name)))
+        (λ d. other x d ∙ sym (neither (bytes_eq x name) false d refl)))

@@ -1,0 +1,203 @@
+-- What holds in each well scene: values follow their formulas, operands stand, no name reaches itself, and values have the
+-- dimension of their names and are cell sets.
+use Rattle.std.proofs.Common.{◌≡◌, ℕ, ◌*◌, ◌==◌, Bool, true, false, not, cond, ◌&&◌, ◌||◌, List, [], ◌∷◌, length, take, drop, Option, Some, None, ℤ, pos, refl, sym, ap, ◌∙◌, subst, is_some, bytes_eq, arith}
+use Rattle.std.specs.Prelude.{nat_abs}
+use Rattle.std.specs.List.{list_any, list_all}
+use Rattle.std.proofs.lemmas.Bool.Decides.{Decides-eqb}
+use Rattle.std.proofs.lemmas.List.{length-take-le}
+use Rattle.evm_cells.specs.Places.{ascending}
+use Rattle.evm_cells.specs.Limits.{IsCellSet, is_cell}
+use Rattle.evm_cells.proofs.Booleans.{cell_sets}
+use Rattle.evm_cells.proofs.Corners.{cell_set-box}
+use Rattle.evm_cells.proofs.Xor.{and_first, and_second, and_both}
+use Rattle.evm_script.specs.declared.formula.Formula.{Formula}
+use Rattle.evm_script.specs.declared.formula.Formula.TheVariants.{Or, And, Sub, Xor, Box}
+use Rattle.evm_model.specs.Figures.{Figure, nothing, box_of, box_at, or_of, and_of, sub_of, xor_of}
+use Rattle.evm_model.specs.Orders.{is_among}
+use Rattle.evm_model.specs.Scene.{What, Given, Made, Entry, Scene, has_name, entry_of, stands, dim_of, dim_of_entry, operands, what_operands, entry_operands, operands_of, formula_value, what_value, entry_value, value, reaches, is_dim, formula_dim, formula_fits, formula_in_range, names_differ, what_is_sound, IsWell}
+use Rattle.evm_model.proofs.Names.{by_test, not_both, same_name, name_itself, among_here, among_later, not_true}
+use Rattle.evm_model.proofs.Lookups.{stands_any, none_stands, found_passes}
+use Rattle.evm_model.proofs.Levels.{value_step, value_unique, reaches_step, reaches_from_none, never_itself, operands_stand, fixed_agree}
+
+pub well_value : (scene : Scene) → IsWell scene → (x : List ℕ) → value scene x ≡ entry_value (entry_of scene.entries x) (value scene)
+well_value scene well x = value_step scene well.order well.ordered well.whole well.size x
+
+pub well_unique : (scene : Scene) → IsWell scene → (f : List ℕ → Figure) → ((x : List ℕ) → f x ≡ entry_value (entry_of scene.entries x) f) → (x : List ℕ) → f x ≡ value scene x
+well_unique scene well f fixed x = value_unique scene well.order well.ordered well.whole well.size f fixed x
+
+pub well_reaches : (scene : Scene) → IsWell scene → (x y : List ℕ) → reaches scene x y ≡ list_any (λ o. bytes_eq o y || reaches scene o y) (operands_of scene.entries x)
+well_reaches scene well x y = reaches_step scene well.order well.ordered well.whole well.size x y
+
+pub well_from_none : (scene : Scene) → IsWell scene → (x y : List ℕ) → stands scene x ≡ false → reaches scene x y ≡ false
+well_from_none scene well x y out = reaches_from_none scene well.order well.ordered well.whole well.size x y out
+
+pub well_never : (scene : Scene) → IsWell scene → (x : List ℕ) → reaches scene x x ≡ false
+well_never scene well x = never_itself scene well.order well.ordered well.whole well.size x
+
+pub well_operands : (scene : Scene) → IsWell scene → (x o : List ℕ) → is_among o (operands_of scene.entries x) ≡ true → stands scene o ≡ true
+well_operands scene well x o r = operands_stand scene well.order well.ordered well.whole well.size x o r
+
+-- the dimension of a formula, at those of its operands
+abbrev formula_dim_at : Formula → (List ℕ → ℕ) → ℕ
+formula_dim_at (Or a b) g = g a
+formula_dim_at (And a b) g = g a
+formula_dim_at (Sub a b) g = g a
+formula_dim_at (Xor a b) g = g a
+formula_dim_at (Box dim nums) g = nat_abs dim
+
+abbrev what_dim_at : ℕ → What → (List ℕ → ℕ) → ℕ
+what_dim_at n (Given cells) g = n
+what_dim_at n (Made f) g = formula_dim_at f g
+
+abbrev entry_dim_at : Option Entry → (List ℕ → ℕ) → ℕ
+entry_dim_at None g = 0
+entry_dim_at (Some e) g = what_dim_at e.dim e.what g
+
+formula_dim_same : (f : Formula) (g h : List ℕ → ℕ) → ((o : List ℕ) → is_among o (operands f) ≡ true → g o ≡ h o) → formula_dim_at f g ≡ formula_dim_at f h
+formula_dim_same (Or a b) g h same = same a (among_here a (b ∷ []))
+formula_dim_same (And a b) g h same = same a (among_here a (b ∷ []))
+formula_dim_same (Sub a b) g h same = same a (among_here a (b ∷ []))
+formula_dim_same (Xor a b) g h same = same a (among_here a (b ∷ []))
+formula_dim_same (Box dim nums) g h same = refl
+
+entry_dim_same : (e : Option Entry) (g h : List ℕ → ℕ) → ((o : List ℕ) → is_among o (entry_operands e) ≡ true → g o ≡ h o) → entry_dim_at e g ≡ entry_dim_at e h
+entry_dim_same None g h same = refl
+entry_dim_same (Some e) g h same = by e.what same
+  where
+    by : (what : What) → ((o : List ℕ) → is_among o (what_operands what) ≡ true → g o ≡ h o) → what_dim_at e.dim what g ≡ what_dim_at e.dim what h
+    by (Given cells) k = refl
+    by (Made f) k = formula_dim_same f g h k
+
+-- the parts of what is sound
+pub sound_fits : (scene : Scene) (n : ℕ) (f : Formula) → what_is_sound scene n (Made f) ≡ true → formula_fits scene f ≡ true
+sound_fits scene n f h =
+    and_first (formula_fits scene f) (formula_in_range scene f) (and_first (formula_fits scene f && formula_in_range scene f) (formula_dim scene f == n) h)
+
+pub sound_range : (scene : Scene) (n : ℕ) (f : Formula) → what_is_sound scene n (Made f) ≡ true → formula_in_range scene f ≡ true
+sound_range scene n f h =
+    and_second (formula_fits scene f) (formula_in_range scene f) (and_first (formula_fits scene f && formula_in_range scene f) (formula_dim scene f == n) h)
+
+pub sound_dim : (scene : Scene) (n : ℕ) (f : Formula) → what_is_sound scene n (Made f) ≡ true → formula_dim scene f ≡ n
+sound_dim scene n f h = (Decides-eqb (formula_dim scene f) n).0 (and_second (formula_fits scene f && formula_in_range scene f) (formula_dim scene f == n) h)
+
+pub sound_made : (scene : Scene) (n : ℕ) (f : Formula) → formula_fits scene f ≡ true → formula_in_range scene f ≡ true → formula_dim scene f ≡ n → what_is_sound scene n (Made f) ≡ true
+sound_made scene n f fits range dim =
+    and_both (formula_fits scene f && formula_in_range scene f) (formula_dim scene f == n)
+    (and_both (formula_fits scene f) (formula_in_range scene f) fits range) ((Decides-eqb (formula_dim scene f) n).1 dim)
+
+pub sound_cells : (n : ℕ) (S : List (List ℤ)) → IsCellSet n S → (ascending S && list_all (is_cell n) S) ≡ true
+sound_cells n S s = and_both (ascending S) (list_all (is_cell n) S) s.ascends s.cells
+
+-- the dimension of the box that numbers state
+pub box_dim : (n : ℕ) (nums : List ℤ) → length nums ≡ 2 * n → (box_at n nums).dim ≡ n
+unfolding box_of
+box_dim n nums both = length-take-le n nums (omega arith)
+
+module _ (scene : Scene) (well : IsWell scene) where
+  pub found_sound : (x : List ℕ) (e : Entry) → entry_of scene.entries x ≡ Some e → what_is_sound scene e.dim e.what ≡ true
+  found_sound x e q = found_passes (λ (y : Entry). what_is_sound scene y.dim y.what) scene.entries x e q well.sound
+
+  pub found_dim : (x : List ℕ) (e : Entry) → entry_of scene.entries x ≡ Some e → is_dim (pos e.dim) ≡ true
+  found_dim x e q = found_passes (λ (y : Entry). is_dim (pos y.dim)) scene.entries x e q well.dims
+
+  dim_fixed : (x : List ℕ) → dim_of scene x ≡ entry_dim_at (entry_of scene.entries x) (dim_of scene)
+  dim_fixed x = by (entry_of scene.entries x) refl
+    where
+      by_formula : (n : ℕ) (f : Formula) → formula_dim scene f ≡ n → n ≡ formula_dim_at f (dim_of scene)
+      by_formula n (Or a b) h = sym h
+      by_formula n (And a b) h = sym h
+      by_formula n (Sub a b) h = sym h
+      by_formula n (Xor a b) h = sym h
+      by_formula n (Box dim nums) h = sym h
+
+      by_what : (n : ℕ) (what : What) → what_is_sound scene n what ≡ true → n ≡ what_dim_at n what (dim_of scene)
+      by_what n (Given cells) h = refl
+      by_what n (Made f) h = by_formula n f (sound_dim scene n f h)
+
+      by : (o : Option Entry) → entry_of scene.entries x ≡ o → dim_of_entry o ≡ entry_dim_at o (dim_of scene)
+      by None q = refl
+      by (Some e) q = by_what e.dim e.what (found_sound x e q)
+
+  value_dim_fixed : (x : List ℕ) → (value scene x).dim ≡ entry_dim_at (entry_of scene.entries x) (λ o. (value scene o).dim)
+  unfolding nothing or_of and_of sub_of xor_of
+  value_dim_fixed x = ap (λ (a : Figure). a.dim) (well_value scene well x) ∙ by (entry_of scene.entries x) refl
+    where
+      by_formula : (n : ℕ) (f : Formula) → what_is_sound scene n (Made f) ≡ true → (formula_value f (value scene)).dim ≡ formula_dim_at f (λ o. (value scene o).dim)
+      by_formula n (Or a b) h = refl
+      by_formula n (And a b) h = refl
+      by_formula n (Sub a b) h = refl
+      by_formula n (Xor a b) h = refl
+      by_formula n (Box dim nums) h =
+          box_dim (nat_abs dim) nums ((Decides-eqb (length nums) (2 * nat_abs dim)).0 (and_second (is_dim dim) (length nums == 2 * nat_abs dim) (sound_fits scene n (Box dim nums) h)))
+
+      by_what : (n : ℕ) (what : What) → what_is_sound scene n what ≡ true → (what_value n what (value scene)).dim ≡ what_dim_at n what (λ o. (value scene o).dim)
+      by_what n (Given cells) h = refl
+      by_what n (Made f) h = by_formula n f h
+
+      by : (o : Option Entry) → entry_of scene.entries x ≡ o → (entry_value o (value scene)).dim ≡ entry_dim_at o (λ o. (value scene o).dim)
+      by None q = refl
+      by (Some e) q = by_what e.dim e.what (found_sound x e q)
+
+  -- the dimension of a name is that of its value
+  pub value_dim : (x : List ℕ) → dim_of scene x ≡ (value scene x).dim
+  value_dim x =
+      by_test (is_among x well.order)
+      (λ l. fixed_agree (operands_of scene.entries) (λ y g. entry_dim_at (entry_of scene.entries y) g) (dim_of scene) (λ y. (value scene y).dim)
+      (λ y g h same. entry_dim_same (entry_of scene.entries y) g h same) well.order well.ordered (λ y m. dim_fixed y) (λ y m. value_dim_fixed y) x l)
+      (λ out. dim_fixed x ∙ ap (λ (o : Option Entry). entry_dim_at o (dim_of scene)) (gone out) ∙ sym (value_dim_fixed x ∙ ap (λ (o : Option Entry). entry_dim_at o (λ y. (value scene y).dim)) (gone out)))
+    where
+      gone : is_among x well.order ≡ false → entry_of scene.entries x ≡ None
+      gone out = none_stands scene.entries x (sym (well.whole x) ∙ out)
+
+  -- each value is a cell set
+  pub value_cells : (x : List ℕ) → IsCellSet (value scene x).dim (value scene x).cells
+  unfolding nothing ascending or_of and_of sub_of xor_of box_of
+  value_cells x = subst (λ (a : Figure). IsCellSet a.dim a.cells) (sym (well_value scene well x)) (by (entry_of scene.entries x) refl)
+    where
+      by_formula : (f : Formula) → IsCellSet (formula_value f (value scene)).dim (formula_value f (value scene)).cells
+      by_formula (Or a b) = (cell_sets (value scene a).dim (value scene a).cells (value scene b).cells).0
+      by_formula (And a b) = (cell_sets (value scene a).dim (value scene a).cells (value scene b).cells).1
+      by_formula (Sub a b) = (cell_sets (value scene a).dim (value scene a).cells (value scene b).cells).2
+      by_formula (Xor a b) = (cell_sets (value scene a).dim (value scene a).cells (value scene b).cells).3
+      by_formula (Box dim nums) = cell_set-box (length (take (nat_abs dim) nums)) (take (nat_abs dim) nums) (drop (nat_abs dim) nums)
+
+      by_what : (n : ℕ) (what : What) → what_is_sound scene n what ≡ true → IsCellSet (what_value n what (value scene)).dim (what_value n what (value scene)).cells
+      by_what n (Given cells) h = record { ascends = and_first (ascending cells) (list_all (is_cell n) cells) h; cells = and_second (ascending cells) (list_all (is_cell n) cells) h }
+      by_what n (Made f) h = by_formula f
+
+      by : (o : Option Entry) → entry_of scene.entries x ≡ o → IsCellSet (entry_value o (value scene)).dim (entry_value o (value scene)).cells
+      by None q = record { ascends = refl; cells = refl }
+      by (Some e) q = by_what e.dim e.what (found_sound x e q)
+
+-- what each entry that is found passes, all entries pass, where names differ
+pub all_entries : (p : Entry → Bool) (es : List Entry) → names_differ es ≡ true → ((x : List ℕ) (e : Entry) → entry_of es x ≡ Some e → p e ≡ true) → list_all p es ≡ true
+all_entries p [] d h = refl
+all_entries p (e ∷ es) d h =
+    and_both (p e) (list_all p es)
+    (h e.name e (ap (λ (b : Bool). cond b (Some e) (entry_of es e.name)) (name_itself e.name)))
+    (all_entries p es (and_second (not (list_any (has_name e.name) es)) (names_differ es) d) later)
+  where
+    later : (x : List ℕ) (f : Entry) → entry_of es x ≡ Some f → p f ≡ true
+    later x f q =
+        by_test (has_name x e)
+        (λ k. not_both (is_some (entry_of es x)) (ap (λ (o : Option Entry). is_some o) q)
+        (stands_any es x ∙ ap (λ (y : List ℕ). list_any (has_name y) es) (same_name x e.name k) ∙ not_true (list_any (has_name e.name) es) (and_first (not (list_any (has_name e.name) es)) (names_differ es) d)))
+        (λ k. h x f (ap (λ (b : Bool). cond b (Some e) (entry_of es x)) k ∙ q))
+
+both_sound : (s u : Scene) (n : ℕ) (a b : List ℕ) → ((o : List ℕ) → is_among o (a ∷ b ∷ []) ≡ true → dim_of s o ≡ dim_of u o)
+    → ((dim_of s a == dim_of s b) && true && (dim_of s a == n)) ≡ ((dim_of u a == dim_of u b) && true && (dim_of u a == n))
+both_sound s u n a b same =
+    ap (λ (k : ℕ). (k == dim_of s b) && true && (k == n)) (same a (among_here a (b ∷ [])))
+    ∙ ap (λ (k : ℕ). (dim_of u a == k) && true && (dim_of u a == n)) (same b (among_later b a (b ∷ []) (among_here b [])))
+
+-- what is sound depends on the dimensions of the operands alone
+pub formula_sound_same : (s u : Scene) (n : ℕ) (f : Formula) → ((o : List ℕ) → is_among o (operands f) ≡ true → dim_of s o ≡ dim_of u o) → what_is_sound s n (Made f) ≡ what_is_sound u n (Made f)
+formula_sound_same s u n (Or a b) same = both_sound s u n a b same
+formula_sound_same s u n (And a b) same = both_sound s u n a b same
+formula_sound_same s u n (Sub a b) same = both_sound s u n a b same
+formula_sound_same s u n (Xor a b) same = both_sound s u n a b same
+formula_sound_same s u n (Box dim nums) same = refl
+
+pub what_sound_same : (s u : Scene) (n : ℕ) (what : What) → ((o : List ℕ) → is_among o (what_operands what) ≡ true → dim_of s o ≡ dim_of u o) → what_is_sound s n what ≡ what_is_sound u n what
+what_sound_same s u n (Given cells) same = refl
+what_sound_same s u n (Made f) same = formula_sound_same s u n f same

@@ -1,0 +1,23 @@
+use Rattle.evm_model.proofs.WellScenes.{well_value, well_unique, well_reaches, well_never, well_operands, value_dim, value_cells}
+use Rattle.evm_model.proofs.values_follow_formulas.Goals as goal
+
+pub returns-clause-values : goal.returns-clause-values
+returns-clause-values c = λ scene name well. well_value scene well name
+
+pub returns-clause-only : goal.returns-clause-only
+returns-clause-only c = λ scene figures well fixed name. well_unique scene well figures fixed name
+
+pub returns-clause-reaching : goal.returns-clause-reaching
+returns-clause-reaching c = λ scene name other well. well_reaches scene well name other
+
+pub returns-clause-cycles : goal.returns-clause-cycles
+returns-clause-cycles c = λ scene name well. well_never scene well name
+
+pub returns-clause-operands : goal.returns-clause-operands
+returns-clause-operands c = λ scene name operand well m. well_operands scene well name operand m
+
+pub returns-clause-dim : goal.returns-clause-dim
+returns-clause-dim c = λ scene name well. value_dim scene well name
+
+pub returns-clause-cells : goal.returns-clause-cells
+returns-clause-cells c = λ scene name well. value_cells scene well name

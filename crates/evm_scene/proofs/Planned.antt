@@ -1,0 +1,91 @@
+-- What refuses an edit of an input by a box, by the table.
+use Rattle.std.proofs.Common.{◌≡◌, ℕ, ◌*◌, ◌==◌, Bool, true, false, not, List, [], ◌∷◌, Option, None, Some, Result, Ok, Err, ℤ, length, refl, sym, ap, subst, ◌∙◌, is_some}
+use Rattle.evm_rows.specs.Rows.{Vertices}
+use Rattle.evm_model.specs.Figures.{Figure, box_fits, low_of, high_of, box_at, xor_of, or_of, sub_of}
+use Rattle.evm_model.specs.Scene.{Scene, stands, is_input, dim_of, value, with_figure}
+use Rattle.evm_model.specs.Edits.{Edit, Code, Name, Kind, Dim, Range, first_cause, box_causes, refusal, after, with_box}
+use Rattle.evm_scene.specs.declared.node.Node.{Node}
+use Rattle.evm_scene.specs.declared.node.Change.{Change}
+use Rattle.evm_scene.specs.declared.boxes.BoxEdit.{BoxEdit}
+use Rattle.evm_scene.specs.declared.boxes.BoxEdit.TheVariants.{Toggle, Add, Cut}
+use Rattle.evm_scene.specs.declared.edit.Refusal.{Refusal}
+use Rattle.evm_scene.specs.declared.edit.Refusal.TheVariants as why
+use Rattle.evm_scene.specs.Tables.{Table, figure_of, node_at, node_figure, node_dim, is_made, kept, scene_of}
+use Rattle.evm_scene.specs.Orders.{IsKept}
+use Rattle.evm_scene.specs.Changes.{IsChange}
+use Rattle.evm_scene.specs.Combined.{MakesBox}
+use Rattle.evm_scene.specs.BoxEdits.{figure_by, edit_by, IsRefused, IsPlanned}
+use Rattle.evm_scene.proofs.Views.{stands_at, dim_is, input_at, is_given, kept_is_value}
+
+box_refusal : (edit : BoxEdit) (scene : Scene) (name : List ℕ) (nums : List ℤ) → refusal scene (edit_by edit name nums) ≡ first_cause (box_causes scene name nums)
+box_refusal Toggle scene name nums = refl
+box_refusal Add scene name nums = refl
+box_refusal Cut scene name nums = refl
+
+box_after : (edit : BoxEdit) (scene : Scene) (name : List ℕ) (nums : List ℤ) → after scene (edit_by edit name nums) ≡ with_box (figure_by edit) scene name nums
+box_after Toggle scene name nums = refl
+box_after Add scene name nums = refl
+box_after Cut scene name nums = refl
+
+-- the causes at a node
+abbrev box_code : Bool → Bool → Bool → Option Code
+box_code made sized fits = first_cause ((made, Kind) ∷ (not sized, Dim) ∷ (not fits, Range) ∷ [])
+
+module _ (edit : BoxEdit) (t : Table) (name : List ℕ) (nums : List ℤ) where
+  pub absent : node_at t name ≡ None → refusal (scene_of t) (edit_by edit name nums) ≡ Some Name
+  absent at =
+      box_refusal edit (scene_of t) name nums
+      ∙ ap (λ (b : Bool). first_cause ((not b, Name) ∷ (not (is_input (scene_of t) name), Kind) ∷ (not (length nums == 2 * dim_of (scene_of t) name), Dim) ∷ (not (box_fits (low_of (dim_of (scene_of t) name) nums) (high_of (dim_of (scene_of t) name) nums)), Range) ∷ []))
+      (stands_at t name ∙ ap (λ (o : Option Node). is_some o) at)
+
+  module _ (n : Node) (at : node_at t name ≡ Some n) where
+    there : stands (scene_of t) name ≡ true
+    there = stands_at t name ∙ ap (λ (o : Option Node). is_some o) at
+
+    given : is_input (scene_of t) name ≡ not (is_some n.formula)
+    given = input_at t name ∙ ap is_given at
+
+    wide : dim_of (scene_of t) name ≡ n.dim
+    wide = dim_is t name ∙ ap node_dim at
+
+    twice : (m : Bool) → not (not m) ≡ m
+    twice true = refl
+    twice false = refl
+
+    code_at : (m d r : Bool) → is_some n.formula ≡ m → (length nums == 2 * n.dim) ≡ d → box_fits (low_of n.dim nums) (high_of n.dim nums) ≡ r → refusal (scene_of t) (edit_by edit name nums) ≡ box_code m d r
+    code_at m d r p q o =
+        box_refusal edit (scene_of t) name nums
+        ∙ (λ i. first_cause ((not (there i), Name) ∷ (not (given i), Kind) ∷ (not (length nums == 2 * wide i), Dim) ∷ (not (box_fits (low_of (wide i) nums) (high_of (wide i) nums)), Range) ∷ []))
+        ∙ (λ i. first_cause ((twice (is_some n.formula) i, Kind) ∷ (not (q i), Dim) ∷ (not (o i), Range) ∷ []))
+        ∙ ap (λ (b : Bool). box_code b d r) p
+
+    pub formula_refused : is_some n.formula ≡ true → refusal (scene_of t) (edit_by edit name nums) ≡ Some Kind
+    formula_refused p = code_at true (length nums == 2 * n.dim) (box_fits (low_of n.dim nums) (high_of n.dim nums)) p refl refl
+
+    pub dim_refused : is_some n.formula ≡ false → (length nums == 2 * n.dim) ≡ false → refusal (scene_of t) (edit_by edit name nums) ≡ Some Dim
+    dim_refused p q = code_at false false (box_fits (low_of n.dim nums) (high_of n.dim nums)) p q refl
+
+    pub box_refused : is_some n.formula ≡ false → (length nums == 2 * n.dim) ≡ true → (r : Refusal) → MakesBox (Err r) n.dim nums → IsRefused r (scene_of t) (edit_by edit name nums)
+    box_refused p q why.Name h = absurd h
+    box_refused p q why.Taken h = absurd h
+    box_refused p q why.Kind h = absurd h
+    box_refused p q why.Used h = absurd h
+    box_refused p q why.Cycle h = absurd h
+    box_refused p q why.Dim h = absurd h
+    box_refused p q why.Range h = code_at false true false p q h
+    box_refused p q why.NoMemory h = tt
+
+    pub plan : (order : List (List ℕ)) (made : Vertices) (c : Change) → IsKept t order → is_some n.formula ≡ false → (length nums == 2 * n.dim) ≡ true → MakesBox (Ok made) n.dim nums
+        → figure_of c.after ≡ figure_by edit (figure_of n.solid) (figure_of made) → IsChange (Some c) (figure_of n.solid) → IsPlanned t name (edit_by edit name nums) c
+    plan order made c k p q box e h = record {
+      stands = ap (λ (o : Option Node). is_some o) at;
+      input = ap is_made at ∙ p;
+      change = subst (λ (o : Option Node). IsChange (Some c) (node_figure o)) (sym at) h;
+      fine = code_at false true true p q box.0;
+      after =
+          ap (with_figure (scene_of t) name)
+          (e ∙ ap (figure_by edit (figure_of n.solid)) box.1
+          ∙ ap (λ (f : Figure). figure_by edit f (box_at n.dim nums)) (ap node_figure (sym at) ∙ kept_is_value t order k name)
+          ∙ ap (λ (m : ℕ). figure_by edit (value (scene_of t) name) (box_at m nums)) (sym wide))
+          ∙ sym (box_after edit (scene_of t) name nums);
+    }

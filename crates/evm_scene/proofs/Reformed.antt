@@ -1,0 +1,124 @@
+-- A definition of a name that stands for a formula, made or refused.
+use Rattle.std.proofs.Common.{◌≡◌, ℕ, ◌==◌, Bool, true, false, not, cond, ◌&&◌, ◌||◌, List, [], ◌∷◌, ◌++◌, Option, None, Some, Result, Ok, Err, refl, sym, ap, subst, ◌∙◌, true≢false, is_some, bytes_eq}
+use Rattle.std.specs.Prelude.{option_map}
+use Rattle.std.specs.List.{list_any, IsDistinct}
+use Rattle.std.specs.Map.{keys_of}
+use Rattle.evm_script.specs.declared.formula.Formula.{Formula}
+use Rattle.evm_model.specs.Orders.{is_among}
+use Rattle.evm_model.specs.Scene.{Scene, Entry, What, Made, stands, is_input, dim_of, operands, formula_dim, formula_fits, formula_in_range, with_entry, with_new, with_formula}
+use Rattle.evm_model.specs.Edits as model
+use Rattle.evm_model.specs.Edits.{lacks_operand, closes_cycle, misses_dim, changed_names}
+use Rattle.evm_model.proofs.Names.{by_name, or_right}
+use Rattle.evm_scene.specs.declared.edit.Refusal.{Refusal}
+use Rattle.evm_scene.specs.declared.edit.Refusal.TheVariants.{Name, Taken, Kind, Used, Cycle, Dim, Range, NoMemory}
+use Rattle.evm_scene.specs.declared.node.Node.{Node}
+use Rattle.evm_scene.specs.Tables.{Table, node_at, reads_at, dim_at, is_made, entries_of, scene_of}
+use Rattle.evm_scene.specs.Orders.{IsKept, meets, Parted}
+use Rattle.evm_scene.specs.Changes.{Pending, IsRedefined, IsInstalled}
+use Rattle.evm_scene.specs.Applied.{Applies}
+use Rattle.evm_scene.specs.Definitions.{IsFree}
+use Rattle.evm_scene.proofs.Views.{stands_at, dim_is, input_at, is_given}
+use Rattle.evm_scene.proofs.Causes.{other_stands, sized_in, not_refused}
+use Rattle.evm_scene.proofs.Installed.{installed_kept, installed_view, installed_count, cycle_is}
+
+-- a refusal by a cycle
+pub unfree : (e : Refusal) (t : Table) (order : List (List ℕ)) (name : List ℕ) (f : Formula) (edit : model.Edit) → IsFree (Err e) t order name f
+    → (closes_cycle (scene_of t) name f ≡ true → model.refusal (scene_of t) edit ≡ Some model.Cycle) → Applies (Err e) (scene_of t) (scene_of t) edit
+unfree Name t order name f edit h k = absurd h
+unfree Taken t order name f edit h k = absurd h
+unfree Kind t order name f edit h k = absurd h
+unfree Used t order name f edit h k = absurd h
+unfree Cycle t order name f edit h k = (k h, refl)
+unfree Dim t order name f edit h k = absurd h
+unfree Range t order name f edit h k = absurd h
+unfree NoMemory t order name f edit h k = refl
+
+-- what is a formula stands and is no input
+pub made_stands : (t : Table) (name : List ℕ) → is_made (node_at t name) ≡ true → is_some (node_at t name) ≡ true
+made_stands t name = by (node_at t name)
+  where
+    by : (n : Option Node) → is_made n ≡ true → is_some n ≡ true
+    by None h = absurd (true≢false (sym h))
+    by (Some n) h = refl
+
+pub made_no_input : (t : Table) (name : List ℕ) → is_made (node_at t name) ≡ true → is_input (scene_of t) name ≡ false
+made_no_input t name h = input_at t name ∙ by (node_at t name) h
+  where
+    by : (n : Option Node) → is_made n ≡ true → is_given n ≡ false
+    by None k = absurd (true≢false (sym k))
+    by (Some n) k = ap not k
+
+-- each operand stands
+pub operands_present : (t : Table) (name : List ℕ) (f : Formula) → is_some (node_at t name) ≡ true → lacks_operand (scene_of t) name f ≡ false
+    → (o : List ℕ) → is_among o (operands f) ≡ true → is_some (node_at t o) ≡ true
+operands_present t name f standing full o m =
+    by_name o name
+    (λ e. ap (λ (k : List ℕ). is_some (node_at t k)) e ∙ standing)
+    (λ d. sym (stands_at t o) ∙ other_stands (scene_of t) name f full o m d)
+
+-- the lists as the code passes them on
+module _ (t u : Table) (order o2 front reach whole : List (List ℕ)) (name : List ℕ) (f : Formula) (p : Pending) (n dim : ℕ)
+    (before : IsKept t order) (eo : o2 ≡ order) (parted : Parted (reads_at t) o2 name front reach [])
+    (redefined : IsRedefined t front name f p) (installed : IsInstalled t u name f p n)
+    (made : is_made (node_at t name) ≡ true) (full : lacks_operand (scene_of t) name f ≡ false)
+    (open_end : closes_cycle (scene_of t) name f ≡ false) (hit : misses_dim (scene_of t) name f ≡ false)
+    (fits : formula_fits (scene_of t) f ≡ true) (stated : dim ≡ formula_dim (scene_of t) f) (same : dim ≡ dim_of (scene_of t) name) (range : formula_in_range (scene_of t) f ≡ true) where
+  parted_here : Parted (reads_at t) order name front reach []
+  parted_here = subst (λ l. Parted (reads_at t) l name front reach []) eo parted
+
+  standing : is_some (node_at t name) ≡ true
+  standing = made_stands t name made
+
+  present : (o : List ℕ) → is_among o (operands f) ≡ true → is_some (node_at t o) ≡ true
+  present = operands_present t name f standing full
+
+  miss : meets reach (operands f) ≡ false
+  miss = cycle_is t order front reach name f before parted_here present ∙ open_end
+
+  own_dim : dim_at t name ≡ formula_dim (scene_of t) f
+  own_dim = sym (dim_is t name) ∙ sym same ∙ stated
+
+  pub end_kept : whole ≡ front ++ reach → IsKept u whole
+  end_kept e =
+      subst (λ l. IsKept u l) (sym e)
+      (installed_kept t u order front reach name f p n before parted_here redefined installed (sized_in t f (dim_at t name) own_dim fits range) standing present miss)
+
+  -- the scene with the formula in the name's place
+  abbrev stood : ℕ → List Entry
+  stood k = with_entry (entries_of t) name (record { name = name; dim = k; what = Made f })
+
+  end_view : scene_of u ≡ with_formula (scene_of t) name f
+  end_view =
+      ap (λ (es : List Entry). record { entries = es })
+      (installed_view t u order front reach name f p n before parted_here redefined installed (sized_in t f (dim_at t name) own_dim fits range) standing present miss ∙ ap stood own_dim)
+      ∙ sym (ap (λ (b : Bool). cond {A = Scene} b (record { entries = stood (formula_dim (scene_of t) f) }) (with_new (scene_of t) name (formula_dim (scene_of t) f) (Made f))) (stands_at t name ∙ standing))
+
+  pub end_applies : IsDistinct bytes_eq (keys_of t)
+      → (model.refusal (scene_of t) (model.Def name f) ≡ None) × (scene_of u ≡ model.after (scene_of t) (model.Def name f)) × (n ≡ model.changed (scene_of t) (model.Def name f))
+  end_applies names = (
+    not_refused (scene_of t) name f full (made_no_input t name made) open_end hit range,
+    end_view,
+    installed_count t u order front reach name f p n before parted_here redefined installed (sized_in t f (dim_at t name) own_dim fits range) standing present miss names
+        ∙ ap (λ (s : Scene). changed_names (scene_of t) s) end_view,
+  )
+
+-- a dimension other than that of a name that stands
+pub other_dim : (t : Table) (name : List ℕ) (f : Formula) (n m : ℕ) → is_some (node_at t name) ≡ true → n ≡ formula_dim (scene_of t) f → m ≡ dim_of (scene_of t) name → (n == m) ≡ false → misses_dim (scene_of t) name f ≡ true
+other_dim t name f n m standing e h d =
+    or_right (not (formula_fits (scene_of t) f)) (stands (scene_of t) name && not (formula_dim (scene_of t) f == dim_of (scene_of t) name))
+    (ap (λ (b : Bool). b && not (formula_dim (scene_of t) f == dim_of (scene_of t) name)) (stands_at t name ∙ standing)
+    ∙ ap not (ap (λ (k : ℕ). k == dim_of (scene_of t) name) (sym e) ∙ ap (λ (k : ℕ). n == k) (sym h) ∙ d))
+
+-- a name that stands for no formula is an input
+pub given_input : (t : Table) (name : List ℕ) → option_map (λ (n : Node). is_some n.formula) (node_at t name) ≡ Some false → is_input (scene_of t) name ≡ true
+given_input t name h = input_at t name ∙ by (node_at t name) h
+  where
+    same_bool : (a b : Bool) → Some a ≡ Some b → a ≡ b
+    same_bool a b e = cc
+
+    no_bool : None ≡ Some false → ⊥
+    no_bool e = cc
+
+    by : (n : Option Node) → option_map (λ (m : Node). is_some m.formula) n ≡ Some false → is_given n ≡ true
+    by None k = absurd (no_bool k)
+    by (Some n) k = ap not (same_bool (is_some n.formula) false k)

@@ -1,0 +1,90 @@
+-- A table in order shows a well scene, and edits of names that no other reads change no other value.
+use Rattle.std.proofs.Common.{◌≡◌, ℕ, ◌+◌, ◌*◌, ◌==◌, Bool, true, false, cond, not, ◌&&◌, ◌||◌, List, [], ◌∷◌, ◌++◌, Option, None, Some, refl, sym, ap, subst, ◌∙◌, true≢false, is_some, length, map, ℤ, pos, bytes_eq, arith}
+use Rattle.std.specs.Prelude.{nat_abs, option_map}
+use Rattle.std.specs.List.{list_any, list_all, IsDistinct}
+use Rattle.std.proofs.lemmas.Bool.Decides.{Decides-eqb}
+use Rattle.evm_cells.specs.Limits.{IsCellSet}
+use Rattle.evm_cells.specs.Vertices.{cells}
+use Rattle.evm_cells.proofs.Universe.{cell_set-cells}
+use Rattle.evm_cells.proofs.Xor.{and_both}
+use Rattle.evm_script.specs.declared.formula.Formula.{Formula}
+use Rattle.evm_script.specs.declared.formula.Formula.TheVariants.{Or, And, Sub, Xor, Box}
+use Rattle.evm_model.specs.Figures.{box_fits, low_of, high_of}
+use Rattle.evm_model.specs.Orders.{is_among}
+use Rattle.evm_model.specs.Scene.{Scene, Entry, What, Given, Made, has_name, entry_of, dim_of, is_dim, formula_dim, formula_fits, formula_in_range, names_differ, what_is_sound, IsWell}
+use Rattle.evm_model.proofs.Counts.{AllDiffer, differ_distinct}
+use Rattle.evm_model.proofs.WellScenes.{all_entries, sound_made, sound_cells}
+use Rattle.evm_scene.specs.declared.node.Node.{Node}
+use Rattle.evm_scene.specs.Tables.{Table, node_at, dim_at, FormulaSized, MadeSized, NodeSized, what_of, entry_view, entries_of, scene_of}
+use Rattle.evm_scene.specs.Orders.{IsKept}
+use Rattle.evm_scene.proofs.Views.{entry_at, dim_is, entries_ordered, entries_whole, entries_size}
+
+-- the names of a table
+abbrev pub names_of : Table → List (List ℕ)
+names_of t = map (λ e. e.0) t
+
+any_name : (name : List ℕ) (t : Table) → list_any (has_name name) (entries_of t) ≡ is_among name (names_of t)
+any_name name [] = refl
+any_name name (p ∷ ps) = ap (λ (b : Bool). bytes_eq name p.0 || b) (any_name name ps)
+
+names_apart : (t : Table) → AllDiffer (names_of t) → names_differ (entries_of t) ≡ true
+names_apart [] d = refl
+names_apart (p ∷ ps) d = and_both (not (list_any (has_name p.0) (entries_of ps))) (names_differ (entries_of ps)) (ap not (any_name p.0 ps ∙ d.0)) (names_apart ps d.1)
+
+pub entries_apart : (t : Table) → IsDistinct bytes_eq (names_of t) → names_differ (entries_of t) ≡ true
+entries_apart t d = names_apart t (differ_distinct (names_of t) d)
+
+module _ (t : Table) (order : List (List ℕ)) (k : IsKept t order) where
+  -- what each entry passes whose node passes it
+  by_node : (C : Entry → Type 0) → ((x : List ℕ) (n : Node) → node_at t x ≡ Some n → C (entry_view (x, n))) → (x : List ℕ) (e : Entry) → entry_of (entries_of t) x ≡ Some e → C e
+  by_node C h x e q = by (node_at t x) refl (sym (entry_at t x) ∙ q)
+    where
+      same_entry : (a b : Entry) → Some a ≡ Some b → a ≡ b
+      same_entry a b s = cc
+
+      never : {D : Type 0} → None ≡ Some e → D
+      never s = absurd (no_entry s)
+        where
+          no_entry : None ≡ Some e → ⊥
+          no_entry r = cc
+
+      by : (o : Option Node) → node_at t x ≡ o → option_map (λ n. entry_view (x, n)) o ≡ Some e → C e
+      by None at s = never s
+      by (Some n) at s = subst C (same_entry (entry_view (x, n)) e s) (h x n at)
+
+  node_sized_at : (x : List ℕ) (n : Node) → node_at t x ≡ Some n → NodeSized (Some n) (dim_at t)
+  node_sized_at x n at = subst (λ o. NodeSized o (dim_at t)) at (k.sized x)
+
+  both_sound : (n : ℕ) (a b : List ℕ) → (dim_at t a ≡ n) × (dim_at t b ≡ n) → ((dim_of (scene_of t) a == dim_of (scene_of t) b) ≡ true) × (dim_of (scene_of t) a ≡ n)
+  both_sound n a b h = ((Decides-eqb (dim_of (scene_of t) a) (dim_of (scene_of t) b)).1 (dim_is t a ∙ h.0 ∙ sym h.1 ∙ sym (dim_is t b)), dim_is t a ∙ h.0)
+
+  pub formula_sound : (n : ℕ) (f : Formula) → FormulaSized n f (dim_at t) → what_is_sound (scene_of t) n (Made f) ≡ true
+  formula_sound n (Or a b) h = let s = both_sound n a b h in sound_made (scene_of t) n (Or a b) s.0 refl s.1
+  formula_sound n (And a b) h = let s = both_sound n a b h in sound_made (scene_of t) n (And a b) s.0 refl s.1
+  formula_sound n (Sub a b) h = let s = both_sound n a b h in sound_made (scene_of t) n (Sub a b) s.0 refl s.1
+  formula_sound n (Xor a b) h = let s = both_sound n a b h in sound_made (scene_of t) n (Xor a b) s.0 refl s.1
+  formula_sound n (Box dim nums) h =
+      sound_made (scene_of t) n (Box dim nums)
+      (and_both (is_dim dim) (length nums == 2 * nat_abs dim) h.0 ((Decides-eqb (length nums) (2 * nat_abs dim)).1 (h.2 ∙ ap (λ (m : ℕ). 2 * m) (sym h.1))))
+      (subst (λ (m : ℕ). box_fits (low_of m nums) (high_of m nums) ≡ true) (sym h.1) h.3)
+      h.1
+
+  node_sound : (x : List ℕ) (n : Node) → node_at t x ≡ Some n → what_is_sound (scene_of t) n.dim (what_of n.solid n.formula) ≡ true
+  node_sound x n at = by n.formula refl (node_sized_at x n at)
+    where
+      by : (m : Option Formula) → n.formula ≡ m → NodeSized (Some n) (dim_at t) → what_is_sound (scene_of t) n.dim (what_of n.solid m) ≡ true
+      by None e h = sound_cells n.dim (cells n.solid.dim n.solid.rows) (subst (λ (d : ℕ). IsCellSet d (cells n.solid.dim n.solid.rows)) h.1 (cell_set-cells n.solid.dim n.solid.rows))
+      by (Some f) e h = formula_sound n.dim f (subst (λ m. MadeSized n.dim m (dim_at t)) e h.2)
+
+  pub well_kept : IsDistinct bytes_eq (names_of t) → IsWell (scene_of t)
+  well_kept distinct = record {
+    names = entries_apart t distinct;
+    dims = all_entries (λ (e : Entry). is_dim (pos e.dim)) (entries_of t) (entries_apart t distinct)
+        (by_node (λ e. is_dim (pos e.dim) ≡ true) (λ x n at. (node_sized_at x n at).0));
+    sound = all_entries (λ (e : Entry). what_is_sound (scene_of t) e.dim e.what) (entries_of t) (entries_apart t distinct)
+        (by_node (λ e. what_is_sound (scene_of t) e.dim e.what ≡ true) node_sound);
+    order = order;
+    ordered = entries_ordered t order k;
+    whole = entries_whole t order k;
+    size = entries_size t order k;
+  }

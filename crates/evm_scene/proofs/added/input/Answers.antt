@@ -1,0 +1,21 @@
+use Rattle.std.proofs.Common.{◌≡◌, ℕ, List, Bool, true, false, Option, is_some, rules, refl, sym, subst, ap, ◌∙◌}
+use Rattle.evm_model.specs.Scene.{is_dim}
+use Rattle.evm_scene.specs.declared.node.Node.{Node}
+use Rattle.evm_scene.specs.Tables.{node_at}
+use Rattle.evm_scene.proofs.NewNames.{input_refusal, input_done}
+use Rattle.evm_scene.proofs.added.input.Goals as goal
+
+pub returns-then-contains_key-clause-applies : goal.returns-then-contains_key-clause-applies
+returns-then-contains_key-clause-applies c =
+    let there : is_some (node_at c.args.table.now.entries c.args.name) ≡ true = search rules in
+    (input_refusal c.args.table.now.entries c.args.name c.args.dim true (is_dim c.args.dim) there refl, refl)
+
+pub returns-in_default-clause-applies : goal.returns-in_default-clause-applies
+returns-in_default-clause-applies c =
+    let fresh : is_some (node_at c.args.table.now.entries c.args.name) ≡ false = search rules in
+    (input_refusal c.args.table.now.entries c.args.name c.args.dim false false fresh c.in_default.ensures, refl)
+
+pub returns-in-Ok-clause-applies : goal.returns-in-Ok-clause-applies
+returns-in-Ok-clause-applies c =
+    let fresh : is_some (node_at c.args.table.now.entries c.args.name) ≡ false = search rules in
+    input_done c.args.table.now.entries c.add.new.table.entries c.args.name c.args.dim _ _ c.requires.well fresh c.in-Some.ensures.0 c.in-Some.ensures.1 c.none.ensures.value c.in-Ok.ensures.ok

@@ -1,0 +1,15 @@
+use Rattle.std.proofs.Common.{◌≡◌, Bool, Option, Some, true, false, not, is_some, refl, sym, ap, ◌∙◌, rules}
+use Rattle.std.specs.Prelude.{option_map}
+use Rattle.evm_model.specs.Edits.{lacks_operand}
+use Rattle.evm_scene.specs.declared.node.Node.{Node}
+use Rattle.evm_scene.specs.Tables.{node_at, scene_of}
+use Rattle.evm_scene.proofs.Causes.{refused_kind}
+use Rattle.evm_scene.proofs.Reformed.{given_input}
+use Rattle.evm_scene.proofs.defined.define.Goals as goal
+
+pub returns-in-Some-false-clause-applies : goal.returns-in-Some-false-clause-applies
+returns-in-Some-false-clause-applies c =
+    let t = c.args.table.now.entries in
+    let full : lacks_operand (scene_of t) c.args.name c.args.formula ≡ false = sym c.lacks.ensures ∙ c.if-lacks.false in
+    let kind : option_map (λ (n : Node). is_some n.formula) (node_at t c.args.name) ≡ Some false = search rules in
+    (refused_kind (scene_of t) c.args.name c.args.formula full (given_input t c.args.name kind), refl)

@@ -1,0 +1,97 @@
+-- Changes of solids that are made and not yet in place.
+use Rattle.std.specs.Prelude.{ℕ, ◌≡◌, Bool, true, false, cond, List, [], ◌∷◌, Option, None, Some, bytes_eq, length}
+use Rattle.std.specs.List.{IsDistinct}
+use Rattle.std.specs.Map.{lookup, keys_of}
+use Rattle.evm_cells.specs.Vertices.{cells}
+use Rattle.evm_cells.specs.Limits.{IsCellSet}
+use Rattle.evm_script.specs.declared.formula.Formula.{Formula}
+use Rattle.evm_model.specs.Figures.{Figure, xor_of, same_figure}
+use Rattle.evm_model.specs.Orders.{is_among}
+use Rattle.evm_model.specs.Scene.{formula_value}
+use Rattle.evm_scene.specs.Tables.{Table, figure_of, node_at, node_value, node_figure, is_made, put_solid, put_made, with_solid, kept}
+use Rattle.evm_scene.specs.declared.node.Node.{Node}
+use Rattle.evm_scene.specs.declared.node.Change.{Change}
+
+-- the figure after a change, or without one
+abbrev pub after_of : Option Change → Figure → Figure
+after_of None own = own
+after_of (Some c) own = figure_of c.after
+
+-- what a change says of the figure before it
+abbrev pub IsChange : Option Change → Figure → Type 0
+IsChange None own = Unit {0}
+IsChange (Some c) own = (c.delta.dim ≡ own.dim) × (c.after.dim ≡ own.dim) × (figure_of c.after ≡ xor_of own (figure_of c.delta))
+
+-- a change that leaves each figure that it can be one of
+abbrev pub IsStill : Option Change → Type 0
+IsStill c = (own : Figure) → IsCellSet own.dim own.cells → IsChange c own → after_of c own ≡ own
+
+-- the change is one
+abbrev pub Moves : Option Change → Figure → Type 0
+Moves None own = Unit {0}
+Moves (Some c) own = same_figure own (figure_of c.after) ≡ false
+
+-- the change is one of a formula
+abbrev pub MovesNode : Option Change → Option Node → Type 0
+MovesNode None n = Unit {0}
+MovesNode (Some c) n = (same_figure (node_figure n) (figure_of c.after) ≡ false) × (is_made n ≡ true)
+
+-- changes under their names
+abbrev pub Pending : Type 0
+Pending = List (List ℕ × Change)
+
+abbrev pub change_at : Pending → List ℕ → Option Change
+change_at p x = lookup (bytes_eq x) p
+
+-- the figures with the changes in place
+abbrev pub moved : Table → Pending → List ℕ → Figure
+moved t p x = after_of (change_at p x) (kept t x)
+
+-- each name but the edited one has its formula at the figures of its operands, and no name before it changes
+pub record IsCarried (t : Table) (front : List (List ℕ)) (name : List ℕ) (old p : Pending) : Type 0 where
+  pub fixed : (x : List ℕ) → bytes_eq x name ≡ false → moved t p x ≡ node_value (node_at t x) (moved t p)
+  pub early : (x : List ℕ) → is_among x front ≡ true → change_at p x ≡ None
+  pub seed : change_at p name ≡ change_at old name
+  pub change : (x : List ℕ) → IsChange (change_at p x) (kept t x)
+  pub moves : (x : List ℕ) → bytes_eq x name ≡ false → MovesNode (change_at p x) (node_at t x)
+
+-- one name is done, with its change or without one
+pub record IsCarriedTo (t : Table) (name : List ℕ) (p q : Pending) : Type 0 where
+  pub made : Option Change
+  pub put : (x : List ℕ) → change_at q x ≡ cond (bytes_eq name x) made (change_at p x)
+  pub after : after_of made (kept t name) ≡ node_value (node_at t name) (moved t p)
+  pub change : IsChange made (kept t name)
+  pub moves : MovesNode made (node_at t name)
+
+-- how many names change their cells, where `rest` are all changes but the own one of the edited name
+pub record IsCount (own : Change) (all rest : Pending) (names : ℕ) : Type 0 where
+  pub still : cells own.delta.dim own.delta.rows ≡ [] → names ≡ length rest
+  pub moved : (cells own.delta.dim own.delta.rows ≡ [] → ⊥) → names ≡ length all
+  pub apart : IsDistinct bytes_eq (keys_of all)
+  pub rest_apart : IsDistinct bytes_eq (keys_of rest)
+
+-- the table with each change in place
+abbrev pub put_all : Table → Pending → Table
+put_all t [] = t
+put_all t (e ∷ es) = put_solid (put_all t es) e.0 e.1.after
+
+-- a node with its change in place
+abbrev pub moved_node : Option Node → Option Change → Option Node
+moved_node None c = None
+moved_node (Some n) None = Some n
+moved_node (Some n) (Some c) = Some (with_solid n c.after)
+
+-- the changes that follow from another formula of a name
+pub record IsRedefined (t : Table) (front : List (List ℕ)) (name : List ℕ) (f : Formula) (p : Pending) : Type 0 where
+  pub own : Change
+  pub carried : IsCarried t front name ((name, own) ∷ []) p
+  pub value : figure_of own.after ≡ formula_value f (kept t)
+
+-- the changes of a formula and of the names that read it are in place; n of them are changes of cells
+pub record IsInstalled (t u : Table) (name : List ℕ) (f : Formula) (p : Pending) (n : ℕ) : Type 0 where
+  pub rest : Pending
+  pub own : Change
+  pub here : change_at p name ≡ Some own
+  pub without : (x : List ℕ) → change_at rest x ≡ cond (bytes_eq name x) None (change_at p x)
+  pub placed : u ≡ put_made (put_all t rest) name f own.after
+  pub count : IsCount own p rest n

@@ -1,0 +1,113 @@
+-- The table of names: nodes with their solids, and the value of a node where those of its operands are given.
+use Rattle.std.specs.Prelude.{ℕ, ◌≡◌, ◌*◌, Bool, true, false, ℤ, pos, nat_abs, List, [], ◌∷◌, length, map, Option, None, Some, is_some, bytes_eq, if◌then◌else◌}
+use Rattle.std.specs.Map.{lookup}
+use Rattle.evm_cells.specs.Vertices.{cells}
+use Rattle.evm_rows.specs.Rows.{Vertices}
+use Rattle.evm_script.specs.declared.formula.Formula.{Formula}
+use Rattle.evm_script.specs.declared.formula.Formula.TheVariants.{Or, And, Sub, Xor, Box}
+use Rattle.evm_model.specs.Figures.{Figure, nothing, box_fits, low_of, high_of}
+use Rattle.evm_model.specs.Scene.{Scene, Entry, What, Given, Made, operands, formula_value, is_dim}
+use Rattle.evm_scene.specs.declared.node.Node.{Node}
+
+-- names with their nodes, in the order of their making
+abbrev pub Table : Type 0
+Table = List (List ℕ × Node)
+
+-- the figure that extreme vertices stand for
+abbrev pub figure_of : Vertices → Figure
+figure_of v = record { dim = v.dim; cells = cells v.dim v.rows }
+
+-- the node of a name, or none where the name does not stand
+abbrev pub node_at : Table → List ℕ → Option Node
+node_at t x = lookup (bytes_eq x) t
+
+-- the names that a node reads
+abbrev pub made_reads : Option Formula → List (List ℕ)
+made_reads None = []
+made_reads (Some f) = operands f
+
+abbrev pub node_reads : Option Node → List (List ℕ)
+node_reads None = []
+node_reads (Some n) = made_reads n.formula
+
+-- the names that a name reads
+abbrev pub reads_at : Table → List ℕ → List (List ℕ)
+reads_at t x = node_reads (node_at t x)
+
+-- the value of a node at the values of its operands: an input's is its own solid
+abbrev pub made_value : Figure → Option Formula → (List ℕ → Figure) → Figure
+made_value own None at = own
+made_value own (Some f) at = formula_value f at
+
+abbrev pub node_value : Option Node → (List ℕ → Figure) → Figure
+node_value None at = nothing 0
+node_value (Some n) at = made_value (figure_of n.solid) n.formula at
+
+-- the figure of the solid that is kept for a name
+abbrev pub node_figure : Option Node → Figure
+node_figure None = nothing 0
+node_figure (Some n) = figure_of n.solid
+
+abbrev pub kept : Table → List ℕ → Figure
+kept t x = node_figure (node_at t x)
+
+-- the dimension of a name
+abbrev pub node_dim : Option Node → ℕ
+node_dim None = 0
+node_dim (Some n) = n.dim
+
+abbrev pub dim_at : Table → List ℕ → ℕ
+dim_at t x = node_dim (node_at t x)
+
+-- whether a name stands for a formula
+abbrev pub is_made : Option Node → Bool
+is_made None = false
+is_made (Some n) = is_some n.formula
+
+-- a formula has this dimension, where its operands have these, and the numbers that it states are in their limits
+abbrev pub FormulaSized : ℕ → Formula → (List ℕ → ℕ) → Type 0
+FormulaSized n (Or a b) dims = (dims a ≡ n) × (dims b ≡ n)
+FormulaSized n (And a b) dims = (dims a ≡ n) × (dims b ≡ n)
+FormulaSized n (Sub a b) dims = (dims a ≡ n) × (dims b ≡ n)
+FormulaSized n (Xor a b) dims = (dims a ≡ n) × (dims b ≡ n)
+FormulaSized n (Box dim nums) dims =
+    (is_dim dim ≡ true) × (nat_abs dim ≡ n) × (length nums ≡ 2 * n) × (box_fits (low_of n nums) (high_of n nums) ≡ true)
+
+abbrev pub MadeSized : ℕ → Option Formula → (List ℕ → ℕ) → Type 0
+MadeSized n None dims = Unit {0}
+MadeSized n (Some f) dims = FormulaSized n f dims
+
+-- a node's dimension is one of named solids, that of its solid, and that of its formula
+abbrev pub NodeSized : Option Node → (List ℕ → ℕ) → Type 0
+NodeSized None dims = Unit {0}
+NodeSized (Some n) dims = (is_dim (pos n.dim) ≡ true) × (n.solid.dim ≡ n.dim) × MadeSized n.dim n.formula dims
+
+-- the node with another solid, and the table with another solid under a name
+abbrev pub with_solid : Node → Vertices → Node
+with_solid n s = record n { solid = s }
+
+abbrev pub put_solid : Table → List ℕ → Vertices → Table
+put_solid [] x s = []
+put_solid (e ∷ es) x s = if bytes_eq x e.0 then (e.0, with_solid e.1 s) ∷ es else e ∷ put_solid es x s
+
+-- the same with another formula too
+abbrev pub with_made : Node → Formula → Vertices → Node
+with_made n f s = record n { formula = Some f; solid = s }
+
+abbrev pub put_made : Table → List ℕ → Formula → Vertices → Table
+put_made [] x f s = []
+put_made (e ∷ es) x f s = if bytes_eq x e.0 then (e.0, with_made e.1 f s) ∷ es else e ∷ put_made es x f s
+
+-- the scene that a table shows: of an input its cells, of a formula the formula
+abbrev pub what_of : Vertices → Option Formula → What
+what_of own None = Given (cells own.dim own.rows)
+what_of own (Some f) = Made f
+
+abbrev pub entry_view : List ℕ × Node → Entry
+entry_view p = record { name = p.0; dim = p.1.dim; what = what_of p.1.solid p.1.formula }
+
+abbrev pub entries_of : Table → List Entry
+entries_of t = map entry_view t
+
+abbrev pub scene_of : Table → Scene
+scene_of t = record { entries = entries_of t }

@@ -1,0 +1,56 @@
+//! Edits of a scene.
+
+ghost use Rattle.std.specs.Prelude.{◌≡◌};
+ghost use Rattle.evm_scene.specs.Applied.{Applies, edit_view};
+ghost use Rattle.evm_scene.specs.BoxEdits.{edit_by};
+
+use super::added::input;
+use super::boxes::{BoxEdit, edit_by_box};
+use super::defined::define;
+use super::edit::{Changed, Edit, Refusal};
+use super::removed::remove;
+use super::scene::Scene;
+use evm_script::{Name, Nums};
+use std::alloc::Global;
+
+impl Scene {
+    /// Makes an edit, and answers how many names stood before and after and changed their cells.
+    ///
+    /// A refused edit leaves the scene as it is; the refusal is the first cause that holds, in the order of `Refusal`, or
+    /// `NoMemory`, which may come at any edit. Takes memory for the change of each name that changes, and its solid after.
+    pub fn apply(&mut self, alloc: Global, edit: Edit) -> Result<Changed, Refusal>
+        ensures { Applies result self.old self.new (edit_view edit) }
+    {
+        self.facts();
+        match edit {
+            Edit::Input { name, dim } => input(alloc, &mut self.table, &mut self.order, name, dim),
+            Edit::Toggle { name, nums } => self.put_box(alloc, BoxEdit::Toggle, &name, &nums),
+            Edit::Add { name, nums } => self.put_box(alloc, BoxEdit::Add, &name, &nums),
+            Edit::Cut { name, nums } => self.put_box(alloc, BoxEdit::Cut, &name, &nums),
+            Edit::Def { name, formula } => {
+                define(alloc, &mut self.table, &mut self.order, name, formula)
+            }
+            Edit::Drop { name } => remove(&mut self.table, &mut self.order, &name),
+        }
+    }
+
+    /// Changes an input by a box.
+    fn put_box(
+        &mut self,
+        alloc: Global,
+        edit: BoxEdit,
+        name: &Name,
+        nums: &Nums,
+    ) -> Result<Changed, Refusal>
+        ensures { Applies result self.old self.new (edit_by edit name.now nums.now) }
+    {
+        edit_by_box(
+            alloc,
+            &mut self.table,
+            self.order.as_slice(),
+            edit,
+            name,
+            nums,
+        )
+    }
+}

@@ -1,0 +1,123 @@
+//! Edits of inputs by boxes.
+
+ghost use Rattle.std.specs.Prelude.{◌≡◌, Some, IfOk, MatchResult};
+ghost use Rattle.evm_scene.specs.Tables.{figure_of, scene_of};
+ghost use Rattle.evm_scene.specs.Orders.{IsKept};
+ghost use Rattle.evm_scene.specs.Changes.{IsChange};
+ghost use Rattle.evm_scene.specs.Applied.{Applies};
+ghost use Rattle.evm_scene.specs.BoxEdits.{figure_by, edit_by, IsRefused, IsPlanned};
+
+use super::edit::{Changed, Refusal};
+use super::inputs::set_input;
+use super::node::{Change, Node};
+use super::numbers::box_of;
+use super::solids::{combine, exclusive_or};
+use evm_boolean::Op2;
+use evm_rows::{NoMemory, Solid};
+use evm_script::{Name, Nums};
+use indexmap::IndexMap;
+use std::alloc::Global;
+
+/// How a box changes an input.
+#[derive(Clone, Copy, Debug, PartialEq, Eq)]
+pub enum BoxEdit {
+    /// The cells of just one of the two stay.
+    Toggle,
+    /// The cells of the box come in.
+    Add,
+    /// The cells of the box go out.
+    Cut,
+}
+
+/// The change of a solid to another.
+fn changed_to(alloc: Global, own: &Solid, after: Solid) -> Result<Change, NoMemory>
+    requires { after.dim ≡ own.now.dim }
+    ensures after { IfOk result (λ c. c.after ≡ after) }
+    ensures change { IfOk result (λ c. IsChange (Some c) (figure_of own.now)) }
+{
+    let delta = exclusive_or(alloc, own, &after)?;
+    Ok(Change { delta, after })
+}
+
+/// The change of a solid by a box.
+fn box_change(alloc: Global, edit: BoxEdit, own: &Solid, cuboid: Solid) -> Result<Change, NoMemory>
+    requires { cuboid.dim ≡ own.now.dim }
+    ensures after { IfOk result (λ c. figure_of c.after ≡ figure_by edit (figure_of own.now) (figure_of cuboid)) }
+    ensures change { IfOk result (λ c. IsChange (Some c) (figure_of own.now)) }
+{
+    match edit {
+        BoxEdit::Toggle => {
+            let after = exclusive_or(alloc, own, &cuboid)?;
+            Ok(Change {
+                delta: cuboid,
+                after,
+            })
+        }
+        BoxEdit::Add => {
+            let after = combine(alloc, Op2::Or, own, &cuboid)?;
+            changed_to(alloc, own, after)
+        }
+        BoxEdit::Cut => {
+            let after = combine(alloc, Op2::Sub, own, &cuboid)?;
+            changed_to(alloc, own, after)
+        }
+    }
+}
+
+/// The change of an input by a box, or why there is none.
+fn planned(
+    alloc: Global,
+    table: &IndexMap<Name, Node>,
+    edit: BoxEdit,
+    name: &Name,
+    nums: &Nums,
+    order: &[Name],
+) -> Result<Change, Refusal>
+    requires { IsKept table.now.entries order.now }
+    ensures { MatchResult result (IsPlanned table.now.entries name.now (edit_by edit name.now nums.now)) (λ r. IsRefused r (scene_of table.now.entries) (edit_by edit name.now nums.now)) }
+{
+    let _ = order;
+    let Some(node) = table.get(name) else {
+        return Err(Refusal::Name);
+    };
+    if node.formula.is_some() {
+        return Err(Refusal::Kind);
+    }
+    if nums.len() != 2 * node.dim {
+        return Err(Refusal::Dim);
+    }
+    let cuboid = match box_of(alloc, node.dim, nums.values()) {
+        Ok(cuboid) => cuboid,
+        Err(refusal) => return Err(refusal),
+    };
+    match box_change(alloc, edit, &node.solid, cuboid) {
+        Ok(change) => Ok(change),
+        Err(_) => Err(Refusal::NoMemory),
+    }
+}
+
+/// Changes an input by a box, and each name that reads it.
+///
+/// Refused in this order: `Name` where the name does not stand, `Kind` where it is a formula, `Dim` where the numbers are not
+/// twice as many as its dimension, `Range` where one is past the limits or the box has no room on some axis.
+pub fn edit_by_box(
+    alloc: Global,
+    table: &mut IndexMap<Name, Node>,
+    order: &[Name],
+    edit: BoxEdit,
+    name: &Name,
+    nums: &Nums,
+) -> Result<Changed, Refusal>
+    requires { IsKept table.old.entries order.now }
+    ensures kept { IsKept table.new.entries order.now }
+    ensures applies { Applies result (scene_of table.old.entries) (scene_of table.new.entries) (edit_by edit name.now nums.now) }
+{
+    let change = match planned(alloc, table, edit, name, nums, order) {
+        Ok(change) => change,
+        Err(refusal) => return Err(refusal),
+    };
+    match set_input(alloc, table, order, name, change) {
+        Ok(names) => Ok(Changed { names }),
+        Err(_) => Err(Refusal::NoMemory),
+    }
+}

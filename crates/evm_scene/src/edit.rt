@@ -1,0 +1,69 @@
+//! Edits of a scene, and why one is refused.
+
+ghost use Rattle.std.specs.Prelude.{◌≡◌};
+ghost use Rattle.evm_scene.specs.declared.edit.Refusal.TheVariants as refusals;
+
+use evm_rows::NoMemory;
+use evm_script::{Formula, Name, Num, Nums};
+
+/// An edit of a scene.
+#[derive(Clone, Copy, Debug, Drop)]
+pub enum Edit {
+    /// A new input of this dimension, without cells.
+    Input { name: Name, dim: Num },
+    /// The cells of a box that are in the input go out of it, and the others come in. Its lower corner stands first.
+    Toggle { name: Name, nums: Nums },
+    /// The cells of a box come into the input.
+    Add { name: Name, nums: Nums },
+    /// The cells of a box go out of the input.
+    Cut { name: Name, nums: Nums },
+    /// A name stands for a formula: a new name, or one that stood for another formula.
+    Def { name: Name, formula: Formula },
+    /// A name that nothing reads is taken out.
+    Drop { name: Name },
+}
+
+/// Why an edit is refused. Where several causes hold, it is the first of them in this order.
+#[derive(Clone, Copy, Debug, PartialEq, Eq, Drop)]
+pub enum Refusal {
+    /// A name other than the one that is being made does not stand.
+    Name,
+    /// The name of a new input stands already.
+    Taken,
+    /// A box edit of a formula, or a definition of an input.
+    Kind,
+    /// A name that is to be taken out is an operand of a formula.
+    Used,
+    /// A formula would reach its own name through its operands.
+    Cycle,
+    /// The dimension is none that solids have, operands differ in it, or the numbers are not as many as it asks for.
+    Dim,
+    /// A stated number is past its limits.
+    Range,
+    /// There was no memory.
+    NoMemory,
+}
+
+impl From<NoMemory> for Refusal {
+    ghost from_gives = { λ _ r. r ≡ refusals.NoMemory };
+
+    fn from(_e: NoMemory) -> Refusal {
+        Refusal::NoMemory
+    }
+}
+
+/// What an accepted edit did.
+#[derive(Clone, Copy, Debug, PartialEq, Eq, Drop)]
+pub struct Changed {
+    /// How many names stood before and after and changed their cells.
+    pub names: usize,
+}
+
+/// What a name stands for.
+#[derive(Clone, Copy, Debug, PartialEq, Eq, Drop)]
+pub struct Entry {
+    /// The dimension of its solid, 2 to 6.
+    pub dim: usize,
+    /// Whether it is an input; else it is a formula.
+    pub input: bool,
+}

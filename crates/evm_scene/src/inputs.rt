@@ -1,0 +1,92 @@
+//! Edits of inputs.
+
+ghost use Rattle.std.specs.Prelude.{◌≡◌, ◌<◌, length, slice_index_or, ◌++◌, ◌∷◌, [], true, false, is_some, Some, IfOk, OnOk, OnErr};
+ghost use Rattle.evm_model.specs.Orders.{is_among};
+ghost use Rattle.evm_model.specs.Scene.{with_figure};
+ghost use Rattle.evm_model.specs.Edits.{changed_names};
+ghost use Rattle.evm_scene.specs.Tables.{node_at, kept, is_made, figure_of, scene_of};
+ghost use Rattle.evm_scene.specs.Orders.{IsKept};
+ghost use Rattle.evm_scene.specs.Changes.{IsChange, IsCarried};
+
+use super::carry::{carry, put};
+use super::commit::{commit, set_solid, take_own};
+use super::node::{Change, Node};
+use evm_rows::NoMemory;
+use evm_script::Name;
+use indexmap::IndexMap;
+use std::alloc::Global;
+
+/// The place of a name in an order.
+fn place(order: &[Name], name: &Name) -> usize
+    requires { is_among name.now order.now ≡ true }
+    ensures within { result < length order.now }
+    ensures here { slice_index_or order.now result name.now ≡ name.now }
+{
+    for (at, other) in order.iter().enumerate() {
+        if name.same(other) {
+            return at;
+        }
+    }
+    unreachable!()
+}
+
+/// The names before and after a name in an order.
+pub fn around<'a>(order: &'a [Name], name: &Name) -> (&'a [Name], &'a [Name])
+    requires { is_among name.now order.now ≡ true }
+    ensures { order.now ≡ result.0.now ++ name.now ∷ result.1.now }
+{
+    let (front, rest) = order.split_at(place(order, name));
+    match rest {
+        [_, later @ ..] => (front, later),
+        [] => unreachable!(),
+    }
+}
+
+/// All changes that follow from the change of one name, its own among them.
+pub fn changes(
+    alloc: Global,
+    table: &IndexMap<Name, Node>,
+    order: &[Name],
+    name: &Name,
+    change: Change,
+) -> Result<IndexMap<Name, Change>, NoMemory>
+    requires kept { IsKept table.now.entries order.now }
+    requires stands { is_some (node_at table.now.entries name.now) ≡ true }
+    requires change { IsChange (Some change) (kept table.now.entries name.now) }
+    ensures { IfOk result (λ p. IsCarried table.now.entries [] name.now ((name.now, change) ∷ []) p.entries) }
+{
+    let (front, later) = around(order, name);
+    let mut pending = IndexMap::new(alloc);
+    put(&mut pending, name, change)?;
+    carry(alloc, table, front, name, later, &mut pending)?;
+    Ok(pending)
+}
+
+/// Gives an input another solid, and each name that reads it its new one. Answers how many names changed their cells.
+///
+/// All changes are made before the first is put in place, so a failure leaves the table as it is.
+pub fn set_input(
+    alloc: Global,
+    table: &mut IndexMap<Name, Node>,
+    order: &[Name],
+    name: &Name,
+    change: Change,
+) -> Result<usize, NoMemory>
+    requires kept { IsKept table.old.entries order.now }
+    requires stands { is_some (node_at table.old.entries name.now) ≡ true }
+    requires input { is_made (node_at table.old.entries name.now) ≡ false }
+    requires change { IsChange (Some change) (kept table.old.entries name.now) }
+    ensures kept { IsKept table.new.entries order.now }
+    ensures ok { OnOk result (scene_of table.new.entries ≡ with_figure (scene_of table.old.entries) name.now (figure_of change.after)) }
+    ensures count { IfOk result (λ n. n ≡ changed_names (scene_of table.old.entries) (scene_of table.new.entries)) }
+    ensures err { OnErr result (table.new.entries ≡ table.old.entries) }
+{
+    let _names = table.len();
+    let mut pending = changes(alloc, table, order, name, change)?;
+    let own = take_own(&mut pending, name);
+    let names = own.names;
+    let last = own.change;
+    commit(table, pending);
+    set_solid(table, name, last.after);
+    Ok(names)
+}

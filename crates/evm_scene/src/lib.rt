@@ -1,0 +1,28 @@
+//! A scene: named inputs and formulas, each with its solid, kept current under edits.
+//!
+//! A scene holds names in the order of their making. A name stands for an input, whose solid edits change, or for a formula
+//! over other names. Each name's solid is kept, and always is that of its formula evaluated anew from the inputs. An edit
+//! makes the exact change of its name, carries it through the names that come later in an order in which operands stand
+//! first, and puts all new solids in place at the end, when nothing can fail any more.
+#![tactic(auto)]
+
+mod added;
+mod apply;
+mod boxes;
+mod carry;
+mod commit;
+mod defined;
+mod edit;
+mod formulas;
+mod inputs;
+mod node;
+mod numbers;
+mod removed;
+mod reorder;
+mod scene;
+mod solids;
+#[cfg(test)]
+mod tests;
+
+pub use edit::{Changed, Edit, Entry, Refusal};
+pub use scene::Scene;

@@ -1,0 +1,85 @@
+//! Nodes of the table of names, and changes that are not in place yet.
+
+ghost use Rattle.std.specs.Prelude.{◌≡◌, true, false, IfOk};
+ghost use Rattle.std.specs.Option.{option_copied};
+ghost use Rattle.evm_model.specs.Figures.{nothing, xor_of};
+ghost use Rattle.evm_scene.specs.Tables.{figure_of};
+ghost use Rattle.evm_scene.specs.Combined.{combine_of};
+ghost use Rattle.evm_scene.specs.Changes.{after_of, IsChange, Moves};
+
+use super::solids::{change, exclusive_or, is_none, none, stays};
+use evm_boolean::Op2;
+use evm_rows::{NoMemory, Solid};
+use evm_script::Formula;
+use std::alloc::Global;
+
+/// What a name stands for: its dimension, its formula if it is no input, and its solid.
+#[derive(Drop)]
+pub struct Node {
+    /// The dimension of the solid, 2 to 6.
+    pub dim: usize,
+    /// The formula that makes the solid, or none for an input.
+    pub formula: Option<Formula>,
+    /// The solid.
+    pub solid: Solid,
+}
+
+/// A change of a solid that is made and not in place yet.
+#[derive(Drop)]
+pub struct Change {
+    /// The exclusive or of the solid before and after.
+    pub delta: Solid,
+    /// The solid after.
+    pub after: Solid,
+}
+
+/// The change of an operand, or the one without cells.
+fn delta_or<'a>(change: Option<&'a Change>, own: &Solid, still: &'a Solid) -> &'a Solid
+    requires change { IsChange (option_copied change) (figure_of own.now) }
+    requires still { figure_of still.now ≡ nothing own.now.dim }
+    requires dim { still.now.dim ≡ own.now.dim }
+    ensures dim { result.now.dim ≡ own.now.dim }
+    ensures after { xor_of (figure_of own.now) (figure_of result.now) ≡ after_of (option_copied change.entry) (figure_of own.now) }
+{
+    stays(own);
+    match change {
+        Some(c) => &c.delta,
+        None => still,
+    }
+}
+
+/// How a Boolean changes with its operands, or none where it does not.
+///
+/// `own` is the Boolean of `a` and `b` before their changes. Where neither operand changes, nothing is looked at.
+pub fn both_changed(
+    alloc: Global,
+    op: Op2,
+    own: &Solid,
+    a: &Solid,
+    da: Option<&Change>,
+    b: &Solid,
+    db: Option<&Change>,
+) -> Result<Option<Change>, NoMemory>
+    requires value { figure_of own.now ≡ combine_of op (figure_of a.now) (figure_of b.now) }
+    requires first { a.now.dim ≡ own.now.dim }
+    requires second { b.now.dim ≡ own.now.dim }
+    requires first_change { IsChange (option_copied da) (figure_of a.now) }
+    requires second_change { IsChange (option_copied db) (figure_of b.now) }
+    ensures after { IfOk result (λ c. after_of c (figure_of own.now) ≡ combine_of op (after_of (option_copied da.entry) (figure_of a.now)) (after_of (option_copied db.entry) (figure_of b.now))) }
+    ensures change { IfOk result (λ c. IsChange c (figure_of own.now)) }
+    ensures moves { IfOk result (λ c. Moves c (figure_of own.now)) }
+{
+    if da.is_none() && db.is_none() {
+        return Ok(None);
+    }
+    own.facts();
+    let still = none(alloc, own.dim());
+    let first = delta_or(da, a, &still);
+    let second = delta_or(db, b, &still);
+    let delta = change(alloc, op, a, first, b, second)?;
+    let after = exclusive_or(alloc, own, &delta)?;
+    if is_none(&delta) {
+        return Ok(None);
+    }
+    Ok(Some(Change { delta, after }))
+}

@@ -1,0 +1,80 @@
+//! Names that are taken out.
+
+ghost use Rattle.std.specs.Prelude.{◌≡◌, true, false, filter};
+ghost use Rattle.std.specs.List.{list_any};
+ghost use Rattle.evm_model.specs.Orders.{is_among};
+ghost use Rattle.evm_model.specs.Scene.{operands, IsWell};
+ghost use Rattle.evm_model.specs.Edits as model;
+ghost use Rattle.evm_scene.specs.Tables.{reads_at, scene_of};
+ghost use Rattle.evm_scene.specs.Orders.{IsKept, is_other};
+ghost use Rattle.evm_scene.specs.Applied.{Applies};
+
+use super::edit::{Changed, Refusal};
+use super::node::Node;
+use evm_script::{Formula, Name};
+use indexmap::IndexMap;
+
+/// Whether a formula reads a name.
+pub fn names(formula: &Formula, name: &Name) -> bool
+    ensures { result ≡ is_among name.now (operands formula.now) }
+{
+    match formula {
+        Formula::Or { a, b }
+        | Formula::And { a, b }
+        | Formula::Sub { a, b }
+        | Formula::Xor { a, b } => name == a || name == b,
+        Formula::Box { .. } => false,
+    }
+}
+
+/// Whether one name reads another.
+fn reads(table: &IndexMap<Name, Node>, reader: &Name, name: &Name) -> bool
+    ensures { result ≡ is_among name.now (reads_at table.now.entries reader.now) }
+{
+    match table.get(reader) {
+        Some(
+            Node {
+                formula: Some(formula),
+                ..
+            },
+        ) => names(formula, name),
+        Some(_) => false,
+        None => false,
+    }
+}
+
+/// Whether some name of an order reads it.
+fn is_used(table: &IndexMap<Name, Node>, order: &[Name], name: &Name) -> bool
+    ensures { result ≡ list_any (λ x. is_among name.now (reads_at table.now.entries x)) order.now }
+{
+    order.iter().any(|x| reads(table, x, name))
+}
+
+/// Takes a name out of an order.
+fn take_out(order: &mut Vec<Name>, name: &Name)
+    ensures { order.new.items ≡ filter (is_other name.now) order.old.items }
+{
+    order.retain(|x| x != name);
+}
+
+/// Takes out a name that no formula reads.
+pub fn remove(
+    table: &mut IndexMap<Name, Node>,
+    order: &mut Vec<Name>,
+    name: &Name,
+) -> Result<Changed, Refusal>
+    requires kept { IsKept table.old.entries order.old.items }
+    requires well { IsWell (scene_of table.old.entries) }
+    ensures kept { IsKept table.new.entries order.new.items }
+    ensures applies { Applies result (scene_of table.old.entries) (scene_of table.new.entries) (model.Drop name.now) }
+{
+    if !table.contains_key(name) {
+        return Err(Refusal::Name);
+    }
+    if is_used(table, order.as_slice(), name) {
+        return Err(Refusal::Used);
+    }
+    table.shift_remove(name);
+    take_out(order, name);
+    Ok(Changed { names: 0 })
+}

@@ -1,0 +1,126 @@
+//! The type of scenes, and what can be asked of one.
+
+ghost use Rattle.std.specs.Prelude.{◌≡◌, ◌<◌, true, false, length, map, slice_get, is_some, Some, IfOk, IfErr, IfSome};
+ghost use Rattle.std.specs.Option.{option_copied};
+ghost use Rattle.evm_cells.specs.Vertices.{evm, cells};
+ghost use Rattle.evm_rows.specs.Rows.{IsSolid};
+ghost use Rattle.evm_model.specs.Scene.{start, stands, dim_of, is_input, entry_of, value, IsWell};
+ghost use Rattle.evm_scene.specs.Tables.{figure_of};
+ghost use Rattle.evm_scene.specs.Shown.{name_of_entry, entry_formula, Refuses};
+
+use super::edit::{Entry, Refusal};
+use super::node::Node;
+use evm_rows::{NoMemory, Solid};
+use evm_script::{Formula, Name};
+use indexmap::IndexMap;
+use std::alloc::Global;
+use std::marker::Model;
+
+/// Names in the order of their making, each an input or a formula over other names, and the solid of each.
+#[derive(Drop)]
+pub struct Scene {
+    /// What each name stands for, in the order of their making.
+    pub(crate) table: IndexMap<Name, Node>,
+    /// The names in an order in which operands come first.
+    pub(crate) order: Vec<Name>,
+}
+
+impl Model for Scene {
+    ghost use Rattle.evm_model.specs.Scene as model;
+    ghost use Rattle.evm_scene.specs.Shown.{scene_shown, IsShown};
+
+    ghost Value = { model.Scene };
+
+    ghost view = { scene_shown };
+
+    ghost invariant = { IsShown };
+}
+
+impl Scene {
+    /// The scene without names. Takes no memory yet.
+    pub fn new(alloc: Global) -> Result<Scene, NoMemory>
+        ensures { IfOk result (λ s. s ≡ start) }
+    {
+        Ok(Scene {
+            table: IndexMap::new(alloc),
+            order: Vec::new(alloc),
+        })
+    }
+
+    /// What the type keeps: names differ, each entry is sound, and the names can be put in an order in which operands come
+    /// first. It does nothing, and is called where a proof needs these facts.
+    pub fn facts(&self)
+        ensures { IsWell self.now }
+    {
+        let _count = self.table.len();
+    }
+
+    /// A copy of the solid of a name. The refusal is `Name` exactly where the name does not stand, and else `NoMemory`, where
+    /// there is none for the copy.
+    pub fn solid(&self, alloc: Global, name: &Name) -> Result<Solid, Refusal>
+        ensures ok { IfOk result (λ s. (stands self.now name.now ≡ true) × (figure_of s ≡ value self.now name.now)) }
+        ensures err { IfErr result (λ e. Refuses e (stands self.now name.now ≡ false)) }
+    {
+        match self.kept(name) {
+            Some(solid) => Ok(solid.copy(alloc)?),
+            None => Err(Refusal::Name),
+        }
+    }
+
+    /// The solid of a name, borrowed: none exactly where the name does not stand.
+    pub fn kept(&self, name: &Name) -> Option<&Solid>
+        ensures stands { is_some result ≡ stands self.now name.now }
+        ensures value { IfSome result (λ s. figure_of s.now ≡ value self.now name.now) }
+        ensures solid { IfSome result (λ s. IsSolid s.now) }
+        ensures vertices { IfSome result (λ s. s.now.rows ≡ evm s.now.dim (cells s.now.dim s.now.rows)) }
+    {
+        let Some(node) = self.table.get(name) else {
+            return None;
+        };
+        node.solid.facts();
+        Some(&node.solid)
+    }
+
+    /// How many names stand.
+    pub fn count(&self) -> usize
+        ensures { result ≡ length self.now.entries }
+    {
+        self.table.len()
+    }
+
+    /// The name that was made as the one after `k` others that still stand.
+    pub fn name_at(&self, k: usize) -> &Name
+        requires { k < length self.now.entries }
+        ensures { slice_get (map name_of_entry self.now.entries) k ≡ Some result.now }
+    {
+        match self.table.get_index(k) {
+            Some((name, _)) => name,
+            None => unreachable!(),
+        }
+    }
+
+    /// The dimension of a name, and whether it is an input: none exactly where the name does not stand.
+    pub fn entry(&self, name: &Name) -> Option<Entry>
+        ensures stands { is_some result ≡ stands self.now name.now }
+        ensures dim { IfSome result (λ e. e.dim ≡ dim_of self.now name.now) }
+        ensures input { IfSome result (λ e. e.input ≡ is_input self.now name.now) }
+    {
+        let Some(node) = self.table.get(name) else {
+            return None;
+        };
+        Some(Entry {
+            dim: node.dim,
+            input: node.formula.is_none(),
+        })
+    }
+
+    /// The formula of a name: none exactly where the name does not stand or is an input.
+    pub fn formula(&self, name: &Name) -> Option<&Formula>
+        ensures { option_copied result ≡ entry_formula (entry_of self.now.entries name.now) }
+    {
+        let Some(node) = self.table.get(name) else {
+            return None;
+        };
+        node.formula.as_ref()
+    }
+}
