@@ -11,9 +11,10 @@ use Rattle.evm_model.specs.Orders.{is_among}
 use Rattle.evm_model.specs.Scene.{Scene, Entry, What, Given, Made, stands, is_input, is_dim, dim_of, operands, formula_dim, formula_fits, formula_in_range, with_entry, with_new, with_formula, reaches, IsWell}
 use Rattle.evm_model.specs.Edits as model
 use Rattle.evm_model.specs.Edits.{lacks_operand, closes_cycle, misses_dim}
-use Rattle.evm_model.proofs.Names.{by_name, by_test, name_itself, name_sym, different_names, not_both, neither, or-false, any_among, passes_none, among_here}
+use Rattle.evm_model.proofs.Names.{by_name, by_test, name_itself, name_sym, different_names, not_both, not_false, neither, or-false, any_among, passes_none, among_here}
 use Rattle.evm_model.proofs.ChangeLaws.{unread_unreached}
-use Rattle.evm_model.proofs.Refusals.{not_false, formula_dim_fits}
+use Rattle.evm_model.proofs.WellEdits.{unread}
+use Rattle.evm_model.proofs.Refusals.{formula_dim_fits}
 use Rattle.evm_scene.specs.declared.edit.Refusal.{Refusal}
 use Rattle.evm_scene.specs.declared.edit.Refusal.TheVariants.{Name, Taken, Kind, Used, Cycle, Dim, Range, NoMemory}
 use Rattle.evm_scene.specs.declared.node.Node.{Node}
@@ -100,7 +101,7 @@ module _ (t : Table) (name : List ℕ) (f : Formula) (well : IsWell (scene_of t)
   pub cycle_itself : closes_cycle (scene_of t) name f ≡ is_among name (operands f)
   cycle_itself =
       any_among (λ o. bytes_eq o name || reaches (scene_of t) o name) (bytes_eq name) (operands f)
-      (λ o m. ap (λ (b : Bool). bytes_eq o name || b) (unread_unreached (scene_of t) name o well (absent_unread (scene_of t) well name absent)) ∙ or-false (bytes_eq o name) ∙ name_sym o name)
+      (λ o m. ap (λ (b : Bool). bytes_eq o name || b) (unread_unreached (scene_of t) name o well (unread (scene_of t) name (absent_unread (scene_of t) well name absent))) ∙ or-false (bytes_eq o name) ∙ name_sym o name)
 
   -- and has no dimension yet
   pub dim_missed : misses_dim (scene_of t) name f ≡ not (formula_fits (scene_of t) f)

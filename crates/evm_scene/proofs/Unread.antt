@@ -50,7 +50,7 @@ and_false false = refl
 other_still : (s : Scene) (edit : model.Edit) → IsWell s → is_read s (model.name_of edit) ≡ false → (x : List ℕ) → bytes_eq x (model.name_of edit) ≡ false
     → (stands (model.after s edit) x && not (same_figure (value s x) (value (model.after s edit) x))) ≡ false
 other_still s edit well free x d =
-    ap (λ (v : Figure). stands (model.after s edit) x && not (same_figure (value s x) v)) (others_stay s edit x well d (unread_unreached s (model.name_of edit) x well free))
+    ap (λ (v : Figure). stands (model.after s edit) x && not (same_figure (value s x) v)) (others_stay s edit x well d (unread_unreached s (model.name_of edit) x well (unread s (model.name_of edit) free)))
     ∙ ap (λ (b : Bool). stands (model.after s edit) x && not b) (same_itself (value s x))
     ∙ and_false (stands (model.after s edit) x)
 
