@@ -1,12 +1,11 @@
 //! The type of scenes, and what can be asked of one.
 
-ghost use Rattle.std.specs.Prelude.{◌≡◌, ◌<◌, true, false, length, map, slice_get, is_some, Some, IfOk, IfErr, IfSome};
-ghost use Rattle.std.specs.Option.{option_copied};
+ghost use Rattle.std.specs.Prelude.{◌≡◌, ◌<◌, true, false, length, slice_get, option_map, Some, MatchOption, IfOk, IfErr, IfSome};
 ghost use Rattle.evm_cells.specs.Vertices.{evm, cells};
 ghost use Rattle.evm_rows.specs.Rows.{IsSolid};
-ghost use Rattle.evm_model.specs.Scene.{start, stands, dim_of, is_input, entry_of, value, IsWell};
+ghost use Rattle.evm_model.specs.Scene.{start, stands, dim_of, is_input, value, IsWell};
 ghost use Rattle.evm_scene.specs.Tables.{figure_of};
-ghost use Rattle.evm_scene.specs.Shown.{name_of_entry, entry_formula, Refuses};
+ghost use Rattle.evm_scene.specs.Shown.{formula_of, Refuses};
 
 use super::edit::{Entry, Refusal};
 use super::node::Node;
@@ -69,8 +68,8 @@ impl Scene {
 
     /// The solid of a name, borrowed: none exactly where the name does not stand.
     pub fn kept(&self, name: &Name) -> Option<&Solid>
-        ensures stands { is_some result ≡ stands self.now name.now }
-        ensures value { IfSome result (λ s. figure_of s.now ≡ value self.now name.now) }
+        ensures value { MatchOption result (stands self.now name.now ≡ false) (λ s. (stands self.now name.now ≡ true) × (figure_of s.now ≡ value self.now name.now)) }
+        ensures dim { IfSome result (λ s. s.now.dim ≡ dim_of self.now name.now) }
         ensures solid { IfSome result (λ s. IsSolid s.now) }
         ensures vertices { IfSome result (λ s. s.now.rows ≡ evm s.now.dim (cells s.now.dim s.now.rows)) }
     {
@@ -91,7 +90,7 @@ impl Scene {
     /// The name that was made as the one after `k` others that still stand.
     pub fn name_at(&self, k: usize) -> &Name
         requires { k < length self.now.entries }
-        ensures { slice_get (map name_of_entry self.now.entries) k ≡ Some result.now }
+        ensures { option_map (λ e. e.name) (slice_get self.now.entries k) ≡ Some result.now }
     {
         match self.table.get_index(k) {
             Some((name, _)) => name,
@@ -101,9 +100,7 @@ impl Scene {
 
     /// The dimension of a name, and whether it is an input: none exactly where the name does not stand.
     pub fn entry(&self, name: &Name) -> Option<Entry>
-        ensures stands { is_some result ≡ stands self.now name.now }
-        ensures dim { IfSome result (λ e. e.dim ≡ dim_of self.now name.now) }
-        ensures input { IfSome result (λ e. e.input ≡ is_input self.now name.now) }
+        ensures { MatchOption result (stands self.now name.now ≡ false) (λ e. (stands self.now name.now ≡ true) × (e.dim ≡ dim_of self.now name.now) × (e.input ≡ is_input self.now name.now)) }
     {
         let Some(node) = self.table.get(name) else {
             return None;
@@ -116,7 +113,7 @@ impl Scene {
 
     /// The formula of a name: none exactly where the name does not stand or is an input.
     pub fn formula(&self, name: &Name) -> Option<&Formula>
-        ensures { option_copied result ≡ entry_formula (entry_of self.now.entries name.now) }
+        ensures { option_map (λ f. f.now) result ≡ formula_of self.now name.now }
     {
         let Some(node) = self.table.get(name) else {
             return None;

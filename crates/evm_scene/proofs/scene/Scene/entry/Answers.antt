@@ -6,27 +6,21 @@ use Rattle.evm_scene.specs.Shown.{entry_formula}
 use Rattle.evm_scene.proofs.Views.{stands_at, dim_is, input_at, is_given, formula_at, node_formula, kept_is_value}
 use Rattle.evm_scene.proofs.scene.Scene.entry.Goals as goal
 
-pub returns-in_default-clause-stands : goal.returns-in_default-clause-stands
-returns-in_default-clause-stands c =
-    subst (λ (s : Scene). false ≡ stands s c.args.name.now) c.self.view_is
-    (sym (stands_at c.self.inside.table.entries c.args.name.now ∙ ap (λ (o : Option Node). is_some o) (sym c.in_default.ensures.value)))
-
-pub returns-clause-stands : goal.returns-clause-stands
-returns-clause-stands c =
-    let at : node_at c.self.inside.table.entries c.args.name.now ≡ Some c.in-Some.node.now = sym c.in-Some.ensures.value in
-    subst (λ (s : Scene). true ≡ stands s c.args.name.now) c.self.view_is (sym (stands_at c.self.inside.table.entries c.args.name.now ∙ ap (λ (o : Option Node). is_some o) at))
-
-pub returns-clause-dim : goal.returns-clause-dim
-returns-clause-dim c =
-    let at : node_at c.self.inside.table.entries c.args.name.now ≡ Some c.in-Some.node.now = sym c.in-Some.ensures.value in
-    subst (λ (s : Scene). c.in-Some.node.now.dim ≡ dim_of s c.args.name.now) c.self.view_is (sym (dim_is c.self.inside.table.entries c.args.name.now ∙ ap node_dim at))
-
 turned : (a b : Bool) → a ≡ not b → b ≡ not a
 turned a true e = ap not (sym e)
 turned a false e = ap not (sym e)
 
-pub returns-clause-input : goal.returns-clause-input
-returns-clause-input c =
-    let at : node_at c.self.inside.table.entries c.args.name.now ≡ Some c.in-Some.node.now = sym c.in-Some.ensures.value in
-    subst (λ (s : Scene). c.is_none.result ≡ is_input s c.args.name.now) c.self.view_is
-    (turned (is_some c.in-Some.node.now.formula) c.is_none.result c.is_none.ensures ∙ sym (input_at c.self.inside.table.entries c.args.name.now ∙ ap is_given at))
+pub returns-in_default : goal.returns-in_default
+returns-in_default c =
+    subst (λ (s : Scene). stands s c.args.name.now ≡ false) c.self.view_is
+    (stands_at c.self.inside.table.entries c.args.name.now ∙ ap (λ (o : Option Node). is_some o) (sym c.in_default.ensures.value))
+
+pub returns : goal.returns
+returns c =
+    let at : node_at c.self.inside.table.entries c.args.name.now ≡ Some c.in-Some.node.now = sym c.in-Some.ensures.value in (
+      subst (λ (s : Scene). stands s c.args.name.now ≡ true) c.self.view_is
+          (stands_at c.self.inside.table.entries c.args.name.now ∙ ap (λ (o : Option Node). is_some o) at),
+      subst (λ (s : Scene). c.in-Some.node.now.dim ≡ dim_of s c.args.name.now) c.self.view_is (sym (dim_is c.self.inside.table.entries c.args.name.now ∙ ap node_dim at)),
+      subst (λ (s : Scene). c.is_none.result ≡ is_input s c.args.name.now) c.self.view_is
+          (turned (is_some c.in-Some.node.now.formula) c.is_none.result c.is_none.ensures ∙ sym (input_at c.self.inside.table.entries c.args.name.now ∙ ap is_given at)),
+    )
