@@ -1,22 +1,22 @@
 -- The values that an edit leaves under its name, and what changes where no formula reads the name.
-use Rattle.std.proofs.Common.{◌≡◌, ℕ, Bool, true, false, not, cond, ◌&&◌, ◌||◌, List, [], ◌∷◌, Option, Some, None, ℤ, refl, sym, ap, ◌∙◌, subst, is_some, bytes_eq}
+use Rattle.std.proofs.Common.{◌≡◌, ℕ, Bool, true, false, not, cond, ◌&&◌, List, [], ◌∷◌, Option, Some, None, ℤ, refl, sym, ap, ◌∙◌, subst, is_some, bytes_eq}
 use Rattle.std.specs.Prelude.{nat_abs}
-use Rattle.std.specs.List.{list_any}
 use Rattle.std.proofs.lemmas.Bool.{false≢true}
 use Rattle.evm_script.specs.declared.formula.Formula.{Formula}
 use Rattle.evm_model.specs.Figures.{Figure, nothing, same_figure}
 use Rattle.evm_model.specs.Orders.{is_among}
-use Rattle.evm_model.specs.Scene.{Scene, Entry, Given, Made, entry_of, stands, operands_of, formula_value, value, entry_value, reaches, is_read, with_entry, with_figure, with_new, formula_dim, IsWell}
+use Rattle.evm_model.specs.Scene.{Scene, Entry, Given, Made, entry_of, stands, operands_of, formula_value, value, entry_value, is_read, with_entry, with_figure, with_new, formula_dim, IsWell}
 use Rattle.evm_model.specs.Edits.{Edit, Input, Def, Drop, name_of, refusal, after, changed, changed_names}
-use Rattle.evm_model.proofs.Names.{by_name, by_test, not_both, or_left, neither, name_itself, none_passes, any_among, apart_back, among_none}
+use Rattle.evm_model.proofs.Names.{by_name, by_test, not_both, or_left, neither, name_itself, among_none}
 use Rattle.evm_model.proofs.Lookups.{with_other, with_own, with_none, with_stands, without_own, push_own}
-use Rattle.evm_model.proofs.Levels.{formula_same, fixed_agree}
+use Rattle.evm_model.proofs.Levels.{value_unique, formula_same}
 use Rattle.evm_model.proofs.Counts.{changed_count}
 use Rattle.evm_model.proofs.FigureLaws.{same_itself}
-use Rattle.evm_model.proofs.WellScenes.{well_value, well_unique, well_reaches, well_from_none, well_operands, value_dim, value_cells}
-use Rattle.evm_model.proofs.WellEdits.{before_parts, well_figure, unread}
+use Rattle.evm_model.proofs.WellScenes.{well_value, well_operands, value_dim, value_cells}
+use Rattle.evm_model.proofs.Stays.{IsAt, before_parts, at_edit, at_figure, value_stays, unread_unreached}
+use Rattle.evm_model.proofs.WellEdits.{IsOrderly, orderly_figure, unread}
 use Rattle.evm_model.proofs.Refusals.{new_input, definition, drops}
-use Rattle.evm_model.proofs.EditLaws.{IsAt, well_edit, at_edit, others_stay, value_own, value_stays, at_figure}
+use Rattle.evm_model.proofs.EditLaws.{well_edit, others_stay, value_own}
 
 -- another name stands as it did
 pub others_stand : (scene : Scene) (edit : Edit) (other : List ℕ) → bytes_eq other (name_of edit) ≡ false → stands (after scene edit) other ≡ stands scene other
@@ -60,7 +60,7 @@ drop_gone scene name well = ap (λ (t : Option Entry). is_some t) (without_own s
 pub same_keeps : (scene : Scene) (name other : List ℕ) → IsWell scene → value (with_figure scene name (value scene name)) other ≡ value scene other
 same_keeps scene name other well =
     by_test (stands scene name)
-    (λ h. sym (well_unique u (well_figure scene name (value scene name) well (value_dim scene well name) (value_cells scene well name)) (value scene) (fixed h) other))
+    (λ h. sym (value_unique u left.order left.ordered left.whole left.size (value scene) (fixed h) other))
     (λ h. ap (λ (s : Scene). value s other) (λ i. record { entries = with_none scene.entries name entry h i }))
   where
     entry : Entry
@@ -69,26 +69,15 @@ same_keeps scene name other well =
     u : Scene
     u = with_figure scene name (value scene name)
 
+    left : IsOrderly u
+    left = orderly_figure scene name (value scene name) well (value_dim scene well name) (value_cells scene well name)
+
     fixed : stands scene name ≡ true → (x : List ℕ) → value scene x ≡ entry_value (entry_of u.entries x) (value scene)
     fixed h x =
         by_name x name
         (λ e. subst (λ (z : List ℕ). value scene z ≡ entry_value (entry_of u.entries z) (value scene)) (sym e)
         (sym (ap (λ (t : Option Entry). entry_value t (value scene)) (with_own scene.entries name entry refl h))))
         (λ d. well_value scene well x ∙ ap (λ (t : Option Entry). entry_value t (value scene)) (sym (with_other scene.entries name x entry refl d)))
-
--- a name that is no operand is not reached
-pub unread_unreached : (scene : Scene) (name x : List ℕ) → IsWell scene → ((y : List ℕ) → is_among name (operands_of scene.entries y) ≡ false) → reaches scene x name ≡ false
-unread_unreached scene name x well free =
-    by_test (stands scene x)
-    (λ h. fixed_agree (operands_of scene.entries) (λ y g. list_any g (operands_of scene.entries y)) (λ y. reaches scene y name) (λ y. false)
-    (λ y g k same. any_among g k (operands_of scene.entries y) same)
-    well.order well.ordered (λ y m. well_reaches scene well y name ∙ no_own y) (λ y m. sym (none_passes (λ o. false) (operands_of scene.entries y) (λ o l. refl))) x (well.whole x ∙ h))
-    (λ h. well_from_none scene well x name h)
-  where
-    no_own : (y : List ℕ) → list_any (λ o. bytes_eq o name || reaches scene o name) (operands_of scene.entries y) ≡ list_any (λ o. reaches scene o name) (operands_of scene.entries y)
-    no_own y =
-        any_among (λ o. bytes_eq o name || reaches scene o name) (λ o. reaches scene o name) (operands_of scene.entries y)
-        (λ o m. ap (λ (b : Bool). b || reaches scene o name) (apart_back name o (operands_of scene.entries y) (free y) m))
 
 -- where a name is no operand, another name has the same value after a change of its entry
 unread_other : (s : Scene) (name : List ℕ) (u : Scene) → IsWell s → IsAt s name u → ((y : List ℕ) → is_among name (operands_of s.entries y) ≡ false)

@@ -1,5 +1,5 @@
 -- What an edit keeps and changes.
-use Rattle.std.proofs.Common.{◌≡◌, ℕ, zero, suc, ◌+◌, ◌*◌, ◌≤◌, Bool, true, false, not, cond, ◌&&◌, ◌||◌, List, [], ◌∷◌, length, take, drop, filter, Option, Some, None, ℤ, refl, sym, ap, ◌∙◌, subst, is_some, bytes_eq, count_by, arith}
+use Rattle.std.proofs.Common.{◌≡◌, ℕ, zero, suc, ◌+◌, ◌*◌, ◌≤◌, Bool, true, false, not, cond, ◌&&◌, ◌||◌, List, [], ◌∷◌, length, take, drop, Option, Some, None, ℤ, refl, sym, ap, ◌∙◌, subst, is_some, bytes_eq, count_by, arith}
 use Rattle.std.specs.Prelude.{nat_abs}
 use Rattle.std.specs.List.{list_any}
 use Rattle.std.proofs.lemmas.Bool.{false≢true}
@@ -11,178 +11,84 @@ use Rattle.evm_cells.specs.Boxes.{IsBox, is_box, box_cells}
 use Rattle.evm_cells.proofs.Booleans.{cell_sets}
 use Rattle.evm_cells.proofs.Boxes.{toggle_changes, box_test}
 use Rattle.evm_cells.proofs.Order.{refuted}
-use Rattle.evm_cells.proofs.Xor.{and_first, and_both}
+use Rattle.evm_cells.proofs.Xor.{and_both}
 use Rattle.evm_script.specs.declared.formula.Formula.{Formula}
 use Rattle.evm_model.specs.Figures.{Figure, nothing, box_of, box_at, xor_of, or_of, sub_of, box_fits, same_figure}
-use Rattle.evm_model.specs.Orders.{is_among, Ordered}
-use Rattle.evm_model.specs.Scene.{Scene, Entry, What, Given, Made, has_name, entry_of, stands, dim_of, operands_of, value, value_within, entry_value, reaches, with_entry, without_entry, with_figure, with_new, with_formula, without_name, formula_dim, IsWell}
+use Rattle.evm_model.specs.Scene.{Scene, Entry, Given, Made, has_name, entry_of, stands, dim_of, value, value_within, entry_value, reaches, with_entry, with_figure, with_new, formula_dim, what_is_sound, all_stay, IsWell}
 use Rattle.evm_model.specs.Edits.{Edit, Input, Toggle, Add, Cut, Def, Drop, name_of, refusal, with_box, after, changed, changed_names}
-use Rattle.evm_model.proofs.Names.{by_test, not_both, same_name, name_itself, or_left, or_right, or_none, among_none, among_filter}
-use Rattle.evm_model.proofs.Lookups.{none_stands, with_other, with_own, length-with, with_stands, without_other, without_none, length-without, push_other, length-push}
-use Rattle.evm_model.proofs.Levels.{levels_agree, entry_same}
+use Rattle.evm_model.proofs.Names.{by_test, not_both, same_name, or_left, or_right, or_none, among_none}
+use Rattle.evm_model.proofs.Lookups.{with_own, with_stands}
 use Rattle.evm_model.proofs.Counts.{count_cons}
-use Rattle.evm_model.proofs.Orders.{ordered_filter}
 use Rattle.evm_model.proofs.FigureLaws.{same_itself, same_equal}
 use Rattle.evm_model.proofs.WellScenes.{value_dim, value_cells, sound_made}
-use Rattle.evm_model.proofs.WellEdits.{is_before, before_parts, before_both, before_reads, well_figure, well_new, well_formula, well_without}
-use Rattle.evm_model.proofs.Refusals.{IsBoxFor, new_input, box_for, definition, drops, dim_stated, formula_dim_fits}
+use Rattle.evm_model.proofs.Stays.{at_edit, value_stays}
+use Rattle.evm_model.proofs.WellEdits.{well_figure, stay_new, well_new, well_formula, well_without}
+use Rattle.evm_model.proofs.Refusals.{IsBoxFor, IsDefinition, new_input, box_for, definition, drops, dim_stated, formula_dim_fits}
 
 -- equal figures
 pub same_both : (a b : Figure) → IsCellSet a.dim a.cells → IsCellSet b.dim b.cells → (same_figure a b ≡ true → a ≡ b) × (a ≡ b → same_figure a b ≡ true)
 same_both a b s t = (same_equal a b s.ascends t.ascends, λ e. ap (λ (x : Figure). same_figure x b) e ∙ same_itself b)
 
 -- each edit that is not refused keeps a scene well
-well_toggle : (scene : Scene) (name : List ℕ) (nums : List ℤ) → IsWell scene → IsWell (with_box xor_of scene name nums)
+well_toggle : (scene : Scene) (name : List ℕ) (nums : List ℤ) → IsWell scene → all_stay (with_box xor_of scene name nums) ≡ true → IsWell (with_box xor_of scene name nums)
 unfolding xor_of
-well_toggle scene name nums well =
+well_toggle scene name nums well stay =
     let a = value scene name in
     let b = box_at (dim_of scene name) nums in
-    well_figure scene name (xor_of a b) well (value_dim scene well name) (cell_sets a.dim a.cells b.cells).3
+    well_figure scene name (xor_of a b) well (value_dim scene well name) (cell_sets a.dim a.cells b.cells).3 stay
 
-well_add : (scene : Scene) (name : List ℕ) (nums : List ℤ) → IsWell scene → IsWell (with_box or_of scene name nums)
+well_add : (scene : Scene) (name : List ℕ) (nums : List ℤ) → IsWell scene → all_stay (with_box or_of scene name nums) ≡ true → IsWell (with_box or_of scene name nums)
 unfolding or_of
-well_add scene name nums well =
+well_add scene name nums well stay =
     let a = value scene name in
     let b = box_at (dim_of scene name) nums in
-    well_figure scene name (or_of a b) well (value_dim scene well name) (cell_sets a.dim a.cells b.cells).0
+    well_figure scene name (or_of a b) well (value_dim scene well name) (cell_sets a.dim a.cells b.cells).0 stay
 
-well_cut : (scene : Scene) (name : List ℕ) (nums : List ℤ) → IsWell scene → IsWell (with_box sub_of scene name nums)
+well_cut : (scene : Scene) (name : List ℕ) (nums : List ℤ) → IsWell scene → all_stay (with_box sub_of scene name nums) ≡ true → IsWell (with_box sub_of scene name nums)
 unfolding sub_of
-well_cut scene name nums well =
+well_cut scene name nums well stay =
     let a = value scene name in
     let b = box_at (dim_of scene name) nums in
-    well_figure scene name (sub_of a b) well (value_dim scene well name) (cell_sets a.dim a.cells b.cells).2
+    well_figure scene name (sub_of a b) well (value_dim scene well name) (cell_sets a.dim a.cells b.cells).2 stay
 
 well_input : (scene : Scene) (name : List ℕ) (dim : ℤ) → IsWell scene → refusal scene (Input name dim) ≡ None → IsWell (after scene (Input name dim))
 unfolding ascending
 well_input scene name dim well r =
     let new = new_input scene name dim r in
-    well_new scene name (nat_abs dim) (Given []) well new.fresh (dim_stated dim new.fits) refl (λ o m. among_none o m)
+    well_new scene name (nat_abs dim) (Given []) well new.fresh (dim_stated dim new.fits) refl (λ o m. among_none o m) refl
 
 well_def : (scene : Scene) (name : List ℕ) (formula : Formula) → IsWell scene → refusal scene (Def name formula) ≡ None → IsWell (after scene (Def name formula))
-well_def scene name formula well r = by (stands scene name) refl
+well_def scene name formula well r = by (stands scene name) refl d.stay
   where
-    by : (b : Bool) → stands scene name ≡ b
-        → IsWell (cond b (record { entries = with_entry scene.entries name (record { name = name; dim = formula_dim scene formula; what = Made formula }) }) (with_new scene name (formula_dim scene formula) (Made formula)))
-    by true h =
-        let d = definition scene name formula r in
-        well_formula scene name formula well h (d.dim h) (sound_made scene (formula_dim scene formula) formula d.fits d.range refl) d.stand d.free
-    by false h =
-        let d = definition scene name formula r in
-        well_new scene name (formula_dim scene formula) (Made formula) well h (formula_dim_fits scene well formula d.stand d.fits) (sound_made scene (formula_dim scene formula) formula d.fits d.range refl) d.stand
+    d : IsDefinition scene name formula
+    d = definition scene name formula r
+
+    changed_scene : Scene
+    changed_scene = record { entries = with_entry scene.entries name (record { name = name; dim = formula_dim scene formula; what = Made formula }) }
+
+    new_scene : Scene
+    new_scene = with_new scene name (formula_dim scene formula) (Made formula)
+
+    sound : what_is_sound scene (formula_dim scene formula) (Made formula) ≡ true
+    sound = sound_made scene (formula_dim scene formula) formula d.fits d.range refl
+
+    by : (b : Bool) → stands scene name ≡ b → all_stay (cond b changed_scene new_scene) ≡ true → IsWell (cond b changed_scene new_scene)
+    by true h stay = well_formula scene name formula well h (d.dim h) sound d.stand d.free stay
+    by false h stay =
+        well_new scene name (formula_dim scene formula) (Made formula) well h (formula_dim_fits scene well formula d.stand d.fits) sound d.stand
+        (sym (stay_new scene name (formula_dim scene formula) (Made formula) well h d.stand) ∙ stay)
 
 pub well_edit : (scene : Scene) (edit : Edit) → IsWell scene → refusal scene edit ≡ None → IsWell (after scene edit)
 well_edit scene (Input name dim) well r = well_input scene name dim well r
-well_edit scene (Toggle name nums) well r = well_toggle scene name nums well
-well_edit scene (Add name nums) well r = well_add scene name nums well
-well_edit scene (Cut name nums) well r = well_cut scene name nums well
+well_edit scene (Toggle name nums) well r = well_toggle scene name nums well (box_for xor_of scene name nums r).stay
+well_edit scene (Add name nums) well r = well_add scene name nums well (box_for or_of scene name nums r).stay
+well_edit scene (Cut name nums) well r = well_cut scene name nums well (box_for sub_of scene name nums r).stay
 well_edit scene (Def name formula) well r = well_def scene name formula well r
 well_edit scene (Drop name) well r = let d = drops scene name r in well_without scene name well d.standing d.unread
 
--- the entries of other names stay, and at most one entry goes, if the name stood
-abbrev pub IsAt : Scene → List ℕ → Scene → Type 0
-IsAt s name u =
-    ((x : List ℕ) → bytes_eq x name ≡ false → entry_of u.entries x ≡ entry_of s.entries x)
-    × (length s.entries ≤ length u.entries + cond (stands s name) 1 0)
-
-pub at_figure : (s : Scene) (name : List ℕ) (new : Figure) → IsAt s name (with_figure s name new)
-at_figure s name new = (
-  λ x d. with_other s.entries name x (record { name = name; dim = new.dim; what = Given new.cells }) refl d,
-  omega (arith, length-with s.entries name (record { name = name; dim = new.dim; what = Given new.cells })),
-)
-
-at_new : (s : Scene) (name : List ℕ) (dim : ℕ) (what : What) → IsAt s name (with_new s name dim what)
-at_new s name dim what = (
-  λ x d. push_other s.entries (record { name = name; dim = dim; what = what }) x d,
-  omega (arith, length-push s.entries (record { name = name; dim = dim; what = what })),
-)
-
-at_formula : (s : Scene) (name : List ℕ) (formula : Formula) → IsAt s name (with_formula s name formula)
-at_formula s name formula = by (stands s name)
-  where
-    by : (b : Bool) → IsAt s name (cond b (record { entries = with_entry s.entries name (record { name = name; dim = formula_dim s formula; what = Made formula }) }) (with_new s name (formula_dim s formula) (Made formula)))
-    by true = (
-      λ x d. with_other s.entries name x (record { name = name; dim = formula_dim s formula; what = Made formula }) refl d,
-      omega (arith, length-with s.entries name (record { name = name; dim = formula_dim s formula; what = Made formula })),
-    )
-    by false = at_new s name (formula_dim s formula) (Made formula)
-
-at_drop : (s : Scene) (name : List ℕ) → IsAt s name (without_name s name)
-at_drop s name = (λ x d. without_other s.entries name x d, by (stands s name) refl)
-  where
-    by : (b : Bool) → stands s name ≡ b → length s.entries ≤ length (without_entry s.entries name) + cond b 1 0
-    by true h = omega (arith, length-without s.entries name h)
-    by false h = omega (arith, ap length (without_none s.entries name h))
-
-pub at_edit : (s : Scene) (edit : Edit) → IsAt s (name_of edit) (after s edit)
-at_edit s (Input name dim) = at_new s name (nat_abs dim) (Given [])
-at_edit s (Toggle name nums) = at_figure s name (xor_of (value s name) (box_at (dim_of s name) nums))
-at_edit s (Add name nums) = at_figure s name (or_of (value s name) (box_at (dim_of s name) nums))
-at_edit s (Cut name nums) = at_figure s name (sub_of (value s name) (box_at (dim_of s name) nums))
-at_edit s (Def name formula) = at_formula s name formula
-at_edit s (Drop name) = at_drop s name
-
--- a value of a name that does not stand
-none_value : (es : List Entry) (x : List ℕ) → entry_of es x ≡ None → (n : ℕ) → value_within n es x ≡ nothing 0
-none_value es x q zero = ap (λ (e : Option Entry). entry_value e (λ o. nothing 0)) q
-none_value es x q (suc n) = ap (λ (e : Option Entry). entry_value e (λ o. value_within n es o)) q
-
-length-kept : (p : List ℕ → Bool) (xs : List (List ℕ)) → length (filter p xs) ≤ length xs
-length-kept p [] = omega arith
-length-kept p (x ∷ xs) = by (p x) (length-kept p xs)
-  where
-    by : (b : Bool) → length (filter p xs) ≤ length xs → length (cond b (x ∷ filter p xs) (filter p xs)) ≤ length (x ∷ xs)
-    by true h = omega arith
-    by false h = omega arith
-
--- where one does not pass, fewer are kept
-length-fewer : (p : List ℕ → Bool) (name : List ℕ) (xs : List (List ℕ)) → is_among name xs ≡ true → p name ≡ false → length (filter p xs) + 1 ≤ length xs
-length-fewer p name [] m h = among_none name m
-length-fewer p name (x ∷ xs) m h = by (p x) refl (λ k. length-fewer p name xs k h)
-  where
-    by : (b : Bool) → p x ≡ b → (is_among name xs ≡ true → length (filter p xs) + 1 ≤ length xs) → length (cond b (x ∷ filter p xs) (filter p xs)) + 1 ≤ length (x ∷ xs)
-    by true k rest = by_test (bytes_eq name x)
-        (λ e. absurd (false≢true (sym h ∙ ap p (same_name name x e) ∙ k)))
-        (λ e. omega (arith, rest (sym (ap (λ (b : Bool). b || is_among name xs) e) ∙ m)))
-    by false k rest = omega (arith, length-kept p xs)
-
--- a name that neither is nor reaches the changed one keeps its value
-module _ (s : Scene) (well : IsWell s) (name : List ℕ) (u : Scene) (at : IsAt s name u) where
-  abbrev front : List (List ℕ)
-  front = filter (is_before s name) well.order
-
-  front_order : Ordered (operands_of s.entries) [] front
-  front_order =
-      ordered_filter (operands_of s.entries) (operands_of s.entries) (is_before s name) [] [] [] well.order
-      (λ x m b o k. (k, or_left (is_before s name o) false (before_reads s well name x b o k)))
-      (λ x b m. m) (λ x m. m) (λ x b m. m) well.ordered
-
-  front_fits : length front ≤ length u.entries
-  front_fits =
-      by_test (stands s name)
-      (λ h. omega (
-        arith,
-        well.size,
-        ap (λ (b : Bool). cond {A = ℕ} b 1 0) h,
-        at.1,
-        length-fewer (is_before s name) name well.order (well.whole name ∙ h) (ap not (or_left (bytes_eq name name) (reaches s name name) (name_itself name))),
-      ))
-      (λ h. omega (arith, well.size, ap (λ (b : Bool). cond {A = ℕ} b 1 0) h, at.1, length-kept (is_before s name) well.order))
-
-  front_other : (x : List ℕ) → is_among x front ≡ true → entry_of u.entries x ≡ entry_of s.entries x
-  front_other x m = at.0 x (before_parts s name x (and_first (is_before s name x) (is_among x well.order) (sym (among_filter (is_before s name) x well.order) ∙ m))).0
-
-  pub value_stays : (x : List ℕ) → bytes_eq x name ≡ false → reaches s x name ≡ false → value u x ≡ value s x
-  value_stays x d r =
-      by_test (stands s x)
-      (λ h. levels_agree (operands_of s.entries) (λ y g. entry_value (entry_of s.entries y) g) (λ n y. value_within n u.entries y) (λ n y. value_within n s.entries y)
-      (λ y g k same. entry_same (entry_of s.entries y) g k same) [] front front_order
-      (λ y m n. ap (λ (e : Option Entry). entry_value e (λ o. value_within n u.entries o)) (front_other y m)) (λ y m n. refl)
-      0 (λ y m i j a b. among_none y m) x
-      (among_filter (is_before s name) x well.order ∙ ap (λ (b : Bool). b && is_among x well.order) (before_both s name x d r) ∙ well.whole x ∙ h)
-      (length u.entries) (length s.entries) (omega (arith, front_fits)) (omega (arith, well.size, length-kept (is_before s name) well.order)))
-      (λ h. let gone = none_stands s.entries x h in
-      none_value u.entries x (at.0 x d ∙ gone) (length u.entries) ∙ sym (none_value s.entries x gone (length s.entries)))
+-- an edit after which a formula would move a cell out of the limits is refused
+pub out_of_limits : (scene : Scene) (edit : Edit) → IsWell scene → all_stay (after scene edit) ≡ false → refusal scene edit ≡ None → ⊥
+out_of_limits scene edit well out r = not_both (all_stay (after scene edit)) (well_edit scene edit well r).stay out
 
 pub others_stay : (scene : Scene) (edit : Edit) (other : List ℕ) → IsWell scene → bytes_eq other (name_of edit) ≡ false → reaches scene other (name_of edit) ≡ false
     → value (after scene edit) other ≡ value scene other
@@ -299,11 +205,11 @@ toggle_changes_some scene name nums well r =
     (toggled_differs (value scene name) nums (value_cells scene well name) (box.numbers ∙ ap (λ (m : ℕ). 2 * m) (value_dim scene well name))
     (subst (λ (m : ℕ). box_fits (take m nums) (drop m nums) ≡ true) (value_dim scene well name) box.fits))
   where
-    box : IsBoxFor scene name nums
-    box = box_for scene name nums r
+    box : IsBoxFor xor_of scene name nums
+    box = box_for xor_of scene name nums r
 
 pub toggle_counts : (scene : Scene) (name : List ℕ) (nums : List ℤ) → IsWell scene → refusal scene (Toggle name nums) ≡ None → 1 ≤ changed scene (Toggle name nums)
 toggle_counts scene name nums well r =
-    let box = box_for scene name nums r in
+    let box = box_for xor_of scene name nums r in
     changed_own scene name (xor_of (value scene name) (box_at (dim_of scene name) nums)) box.standing
     (ap (λ (a : Figure). same_figure (value scene name) a) (sym (boxes_combine scene name nums box.standing).0) ∙ toggle_changes_some scene name nums well r)

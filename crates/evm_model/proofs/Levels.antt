@@ -1,11 +1,12 @@
 -- Values and reaching in a scene whose names stand in an order, operands before those that read them.
 use Rattle.std.proofs.Common.{◌≡◌, ℕ, zero, suc, ◌+◌, ◌≤◌, Bool, true, false, ◌||◌, List, [], ◌∷◌, length, Option, None, Some, refl, sym, ap, ◌∙◌, subst, bytes_eq, is_some, arith}
+use Rattle.std.specs.Prelude.{nat_abs}
 use Rattle.std.specs.List.{list_any}
 use Rattle.evm_script.specs.declared.formula.Formula.{Formula}
-use Rattle.evm_script.specs.declared.formula.Formula.TheVariants.{Or, And, Sub, Xor, Box}
-use Rattle.evm_model.specs.Figures.{Figure, nothing, or_of, and_of, sub_of, xor_of}
+use Rattle.evm_script.specs.declared.formula.Formula.TheVariants.{Or, And, Sub, Xor, Box, Shift, Mirror, Swap, Clip, Slice, Proj, Lift}
+use Rattle.evm_model.specs.Figures.{Figure, nothing, or_of, and_of, sub_of, xor_of, shift_of, shift_stays, mirror_of, swap_of, clip_of, slice_of, proj_of, lift_of}
 use Rattle.evm_model.specs.Orders.{is_among, AllSeen, Ordered}
-use Rattle.evm_model.specs.Scene.{What, Given, Made, Entry, Scene, entry_of, stands, operands, what_operands, entry_operands, operands_of, formula_value, what_value, entry_value, value_within, value, reaches_within, reaches}
+use Rattle.evm_model.specs.Scene.{What, Given, Made, Entry, Scene, entry_of, stands, operands, what_operands, entry_operands, operands_of, formula_value, formula_stays, what_value, what_stays, entry_value, value_within, value, reaches_within, reaches}
 use Rattle.evm_model.proofs.Names.{by_test, by_among, not_both, or_left, or_right, among_here, among_later, among_none, apart_back, any_among, none_passes}
 
 -- two functions of names, each by levels of operands, agree on an ordered list at as many levels as names were passed
@@ -49,6 +50,19 @@ pub fixed_agree : {V : Type 0} (reads : List ℕ → List (List ℕ)) (step : Li
 fixed_agree {V} reads step f g local order ordered p q x there =
     levels_agree reads step (λ k. f) (λ k. g) local [] order ordered (λ z l k. p z l) (λ z l k. q z l) 0 (λ z l i j a b. among_none z l) x there (length order) (length order) (omega arith) (omega arith)
 
+-- what is shown of a name from the names that it reads holds of each name of an ordered list
+pub along : (reads : List ℕ → List (List ℕ)) (P : List ℕ → Type 0) → ((x : List ℕ) → ((o : List ℕ) → is_among o (reads x) ≡ true → P o) → P x)
+    → (seen xs : List (List ℕ)) → Ordered reads seen xs → ((x : List ℕ) → is_among x seen ≡ true → P x) → (x : List ℕ) → is_among x xs ≡ true → P x
+along reads P step seen [] h done x there = among_none x there
+along reads P step seen (y ∷ ys) h done x there =
+    by_among x y ys there (λ e. subst P (sym e) here) (λ d late. along reads P step (y ∷ seen) ys h.2 more x late)
+  where
+    here : P y
+    here = step y (λ o r. done o (h.1 o r))
+
+    more : (z : List ℕ) → is_among z (y ∷ seen) ≡ true → P z
+    more z m = by_among z y seen m (λ e. subst P (sym e) here) (λ d old. done z old)
+
 -- a formula reads nothing but its operands
 both_same : (op : Figure → Figure → Figure) (a b : List ℕ) (g h : List ℕ → Figure) → ((o : List ℕ) → is_among o (a ∷ b ∷ []) ≡ true → g o ≡ h o) → op (g a) (g b) ≡ op (h a) (h b)
 both_same op a b g h same = ap (λ (x : Figure). op x (g b)) (same a (among_here a (b ∷ []))) ∙ ap (λ (y : Figure). op (h a) y) (same b (among_later b a (b ∷ []) (among_here b [])))
@@ -59,6 +73,32 @@ formula_same (And a b) g h same = both_same and_of a b g h same
 formula_same (Sub a b) g h same = both_same sub_of a b g h same
 formula_same (Xor a b) g h same = both_same xor_of a b g h same
 formula_same (Box dim nums) g h same = refl
+formula_same (Shift a nums) g h same = ap (shift_of nums) (same a (among_here a []))
+formula_same (Mirror a axis) g h same = ap (mirror_of (nat_abs axis)) (same a (among_here a []))
+formula_same (Swap a i j) g h same = ap (swap_of (nat_abs i) (nat_abs j)) (same a (among_here a []))
+formula_same (Clip a nums) g h same = ap (clip_of nums) (same a (among_here a []))
+formula_same (Slice a axis at) g h same = ap (slice_of (nat_abs axis) at) (same a (among_here a []))
+formula_same (Proj a axis) g h same = ap (proj_of (nat_abs axis)) (same a (among_here a []))
+formula_same (Lift a axis lo hi) g h same = ap (lift_of (nat_abs axis) lo hi) (same a (among_here a []))
+
+-- nor does the test of what it moves
+pub formula_stays_same : (f : Formula) (g h : List ℕ → Figure) → ((o : List ℕ) → is_among o (operands f) ≡ true → g o ≡ h o) → formula_stays f g ≡ formula_stays f h
+formula_stays_same (Or a b) g h same = refl
+formula_stays_same (And a b) g h same = refl
+formula_stays_same (Sub a b) g h same = refl
+formula_stays_same (Xor a b) g h same = refl
+formula_stays_same (Box dim nums) g h same = refl
+formula_stays_same (Shift a nums) g h same = ap (shift_stays nums) (same a (among_here a []))
+formula_stays_same (Mirror a axis) g h same = refl
+formula_stays_same (Swap a i j) g h same = refl
+formula_stays_same (Clip a nums) g h same = refl
+formula_stays_same (Slice a axis at) g h same = refl
+formula_stays_same (Proj a axis) g h same = refl
+formula_stays_same (Lift a axis lo hi) g h same = refl
+
+pub what_stays_same : (what : What) (g h : List ℕ → Figure) → ((o : List ℕ) → is_among o (what_operands what) ≡ true → g o ≡ h o) → what_stays what g ≡ what_stays what h
+what_stays_same (Given cells) g h same = refl
+what_stays_same (Made f) g h same = formula_stays_same f g h same
 
 pub what_same : (dim : ℕ) (what : What) (g h : List ℕ → Figure) → ((o : List ℕ) → is_among o (what_operands what) ≡ true → g o ≡ h o) → what_value dim what g ≡ what_value dim what h
 what_same dim (Given cells) g h same = refl

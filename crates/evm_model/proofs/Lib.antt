@@ -4,6 +4,7 @@ pub mod Lookups
 pub mod Counts
 pub mod Orders
 pub mod WellScenes
+pub mod Stays
 pub mod WellEdits
 pub mod FigureLaws
 pub mod Refusals

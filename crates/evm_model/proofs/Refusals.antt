@@ -1,17 +1,20 @@
 -- What holds where nothing refuses an edit.
-use Rattle.std.proofs.Common.{◌≡◌, ℕ, ◌*◌, ◌==◌, Bool, true, false, not, cond, ◌&&◌, ◌||◌, List, [], ◌∷◌, length, Some, None, ℤ, pos, negsuc, refl, sym, ap, ◌∙◌, bytes_eq}
+use Rattle.std.proofs.Common.{◌≡◌, ℕ, ◌+◌, ◌-◌, ◌*◌, ◌==◌, Bool, true, false, not, cond, ◌&&◌, ◌||◌, List, [], ◌∷◌, ◌++◌, length, Some, None, ℤ, pos, negsuc, int_le, refl, sym, ap, ◌∙◌, bytes_eq, arith}
 use Rattle.std.specs.Prelude.{nat_abs}
-use Rattle.std.proofs.lemmas.Bool.{false≢true}
+use Rattle.std.proofs.lemmas.Bool.{false≢true, eqb-false}
+use Rattle.std.proofs.lemmas.Int.{ints as int_facts}
 use Rattle.std.proofs.lemmas.Bool.Decides.{Decides-eqb}
-use Rattle.evm_cells.proofs.Xor.{and_first}
+use Rattle.evm_cells.proofs.Xor.{and_first, and_second, and_both}
+use Rattle.evm_cells.proofs.Coords.{le_yes, le_is}
 use Rattle.evm_script.specs.declared.formula.Formula.{Formula}
-use Rattle.evm_script.specs.declared.formula.Formula.TheVariants.{Or, And, Sub, Xor, Box}
-use Rattle.evm_model.specs.Figures.{box_fits, low_of, high_of}
+use Rattle.evm_script.specs.declared.formula.Formula.TheVariants.{Or, And, Sub, Xor, Box, Shift, Mirror, Swap, Clip, Slice, Proj, Lift}
+use Rattle.evm_model.specs.Figures.{Figure, box_fits, low_of, high_of}
 use Rattle.evm_model.specs.Orders.{is_among}
-use Rattle.evm_model.specs.Scene.{Scene, stands, dim_of, is_input, is_read, reaches, operands, is_dim, formula_dim, formula_fits, formula_in_range, IsWell}
-use Rattle.evm_model.specs.Edits.{Input, Def, Drop, Code, Name, Taken, Kind, Used, Cycle, Dim, Range, first_cause, lacks_operand, closes_cycle, misses_dim, box_causes, refusal}
-use Rattle.evm_model.proofs.Names.{or_none, among_here, passes_none, not_false}
-use Rattle.evm_model.proofs.WellEdits.{is_before, before_both, standing_dim}
+use Rattle.evm_model.specs.Scene.{Scene, stands, dim_of, is_input, is_read, reaches, operands, is_dim, is_axis, with_formula, formula_dim, formula_fits, formula_in_range, all_stay, IsWell}
+use Rattle.evm_model.specs.Edits.{Input, Def, Drop, Code, Name, Taken, Kind, Used, Cycle, Dim, Range, first_cause, lacks_operand, closes_cycle, misses_dim, box_causes, def_causes, value_causes, with_box, refusal}
+use Rattle.evm_model.proofs.Names.{or_none, among_here, passes_none, not_true, not_false}
+use Rattle.evm_model.proofs.Stays.{is_before, before_both}
+use Rattle.evm_model.proofs.WellEdits.{standing_dim}
 
 -- where no cause holds, the first does not
 pub none_first : (c : Bool × Code) (cs : List (Bool × Code)) → first_cause (c ∷ cs) ≡ None → c.0 ≡ false
@@ -27,6 +30,20 @@ none_later c cs e = elim c.0 as (λ b. cond b (Some c.1) (first_cause cs) ≡ No
     no_some : Some c.1 ≡ None → ⊥
     no_some q = cc
 
+-- where none of two lists of causes holds, none of either does
+pub none_front : (cs ds : List (Bool × Code)) → first_cause (cs ++ ds) ≡ None → first_cause cs ≡ None
+none_front [] ds e = refl
+none_front (c ∷ cs) ds e =
+    elim c.0 as (λ b. cond b (Some c.1) (first_cause (cs ++ ds)) ≡ None → cond b (Some c.1) (first_cause cs) ≡ None) [ true ↦ λ k. k | false ↦ λ k. none_front cs ds k ] e
+
+pub none_back : (cs ds : List (Bool × Code)) → first_cause (cs ++ ds) ≡ None → first_cause ds ≡ None
+none_back [] ds e = e
+none_back (c ∷ cs) ds e = none_back cs ds (none_later c (cs ++ ds) e)
+
+-- no formula of the scene that an edit leaves moves a cell out of the limits
+pub stay_left : (cs : List (Bool × Code)) (left : Scene) → first_cause (cs ++ value_causes left) ≡ None → all_stay left ≡ true
+stay_left cs left r = not_false (all_stay left) (none_first (not (all_stay left), Range) [] (none_back cs (value_causes left) r))
+
 -- a new input that is not refused
 pub record IsNewInput (scene : Scene) (name : List ℕ) (dim : ℤ) : Type 0 where
   pub fresh : stands scene name ≡ false
@@ -38,22 +55,28 @@ new_input scene name dim r = record {
   fits = not_false (is_dim dim) (none_first (not (is_dim dim), Dim) [] (none_later (stands scene name, Taken) ((not (is_dim dim), Dim) ∷ []) r));
 }
 
--- a box for an input that is not refused
-pub record IsBoxFor (scene : Scene) (name : List ℕ) (nums : List ℤ) : Type 0 where
+-- a box for an input that is not refused, and is put together with the input's figure in this way
+pub record IsBoxFor (op : Figure → Figure → Figure) (scene : Scene) (name : List ℕ) (nums : List ℤ) : Type 0 where
   pub standing : stands scene name ≡ true
   pub input : is_input scene name ≡ true
   pub numbers : length nums ≡ 2 * dim_of scene name
   pub fits : box_fits (low_of (dim_of scene name) nums) (high_of (dim_of scene name) nums) ≡ true
+  pub stay : all_stay (with_box op scene name nums) ≡ true
 
-pub box_for : (scene : Scene) (name : List ℕ) (nums : List ℤ) → first_cause (box_causes scene name nums) ≡ None → IsBoxFor scene name nums
-box_for scene name nums r = record {
-  standing = not_false (stands scene name) (none_first (not (stands scene name), Name) kind r);
+pub box_for : (op : Figure → Figure → Figure) (scene : Scene) (name : List ℕ) (nums : List ℤ)
+    → first_cause (box_causes scene name nums ++ value_causes (with_box op scene name nums)) ≡ None → IsBoxFor op scene name nums
+box_for op scene name nums r = record {
+  standing = not_false (stands scene name) (none_first (not (stands scene name), Name) kind first);
   input = not_false (is_input scene name) (none_first (not (is_input scene name), Kind) dim second);
   numbers = (Decides-eqb (length nums) (2 * dim_of scene name)).0 (not_false (length nums == 2 * dim_of scene name) (none_first (not (length nums == 2 * dim_of scene name), Dim) range third));
   fits = not_false (box_fits (low_of (dim_of scene name) nums) (high_of (dim_of scene name) nums))
       (none_first (not (box_fits (low_of (dim_of scene name) nums) (high_of (dim_of scene name) nums)), Range) [] (none_later (not (length nums == 2 * dim_of scene name), Dim) range third));
+  stay = stay_left (box_causes scene name nums) (with_box op scene name nums) r;
 }
   where
+    first : first_cause (box_causes scene name nums) ≡ None
+    first = none_front (box_causes scene name nums) (value_causes (with_box op scene name nums)) r
+
     range : List (Bool × Code)
     range = (not (box_fits (low_of (dim_of scene name) nums) (high_of (dim_of scene name) nums)), Range) ∷ []
 
@@ -64,7 +87,7 @@ box_for scene name nums r = record {
     kind = (not (is_input scene name), Kind) ∷ dim
 
     second : first_cause kind ≡ None
-    second = none_later (not (stands scene name), Name) kind r
+    second = none_later (not (stands scene name), Name) kind first
 
     third : first_cause dim ≡ None
     third = none_later (not (is_input scene name), Kind) dim second
@@ -77,6 +100,7 @@ pub record IsDefinition (scene : Scene) (name : List ℕ) (formula : Formula) : 
   pub fits : formula_fits scene formula ≡ true
   pub dim : stands scene name ≡ true → formula_dim scene formula ≡ dim_of scene name
   pub range : formula_in_range scene formula ≡ true
+  pub stay : all_stay (with_formula scene name formula) ≡ true
 
 pub definition : (scene : Scene) (name : List ℕ) (formula : Formula) → refusal scene (Def name formula) ≡ None → IsDefinition scene name formula
 definition scene name formula r = record {
@@ -88,8 +112,12 @@ definition scene name formula r = record {
   dim = λ h. (Decides-eqb (formula_dim scene formula) (dim_of scene name)).0
       (same_dims (stands scene name) (formula_dim scene formula == dim_of scene name) h (or_none (not (formula_fits scene formula)) (stands scene name && not (formula_dim scene formula == dim_of scene name)) no_miss).1);
   range = not_false (formula_in_range scene formula) (none_first (not (formula_in_range scene formula), Range) [] fifth);
+  stay = stay_left (def_causes scene name formula) (with_formula scene name formula) r;
 }
   where
+    first : first_cause (def_causes scene name formula) ≡ None
+    first = none_front (def_causes scene name formula) (value_causes (with_formula scene name formula)) r
+
     range : List (Bool × Code)
     range = (not (formula_in_range scene formula), Range) ∷ []
 
@@ -103,7 +131,7 @@ definition scene name formula r = record {
     kind = (is_input scene name, Kind) ∷ cycle
 
     second : first_cause kind ≡ None
-    second = none_later (lacks_operand scene name formula, Name) kind r
+    second = none_later (lacks_operand scene name formula, Name) kind first
 
     third : first_cause cycle ≡ None
     third = none_later (is_input scene name, Kind) cycle second
@@ -115,7 +143,7 @@ definition scene name formula r = record {
     fifth = none_later (misses_dim scene name formula, Dim) range fourth
 
     no_lack : lacks_operand scene name formula ≡ false
-    no_lack = none_first (lacks_operand scene name formula, Name) kind r
+    no_lack = none_first (lacks_operand scene name formula, Name) kind first
 
     no_cycle : closes_cycle scene name formula ≡ false
     no_cycle = none_first (closes_cycle scene name formula, Cycle) dims third
@@ -146,6 +174,21 @@ pub dim_stated : (dim : ℤ) → is_dim dim ≡ true → is_dim (pos (nat_abs di
 dim_stated (pos d) h = h
 dim_stated (negsuc d) h = absurd (false≢true h)
 
+-- one axis less, or one more
+dim_less : (d : ℕ) → is_dim (pos d) ≡ true → not (d == 2) ≡ true → is_dim (pos (d - 1)) ≡ true
+dim_less d h k =
+    let low = le_is (pos 2) (pos d) (and_first (int_le (pos 2) (pos d)) (int_le (pos d) (pos 6)) h) in
+    let high = le_is (pos d) (pos 6) (and_second (int_le (pos 2) (pos d)) (int_le (pos d) (pos 6)) h) in
+    let two = eqb-false d 2 (not_true (d == 2) k) in
+    and_both (int_le (pos 2) (pos (d - 1))) (int_le (pos (d - 1)) (pos 6)) (le_yes (pos 2) (pos (d - 1)) (omega (arith, int_facts, low, two))) (le_yes (pos (d - 1)) (pos 6) (omega (arith, int_facts, high)))
+
+dim_more : (d : ℕ) → is_dim (pos d) ≡ true → not (d == 6) ≡ true → is_dim (pos (d + 1)) ≡ true
+dim_more d h k =
+    let low = le_is (pos 2) (pos d) (and_first (int_le (pos 2) (pos d)) (int_le (pos d) (pos 6)) h) in
+    let high = le_is (pos d) (pos 6) (and_second (int_le (pos 2) (pos d)) (int_le (pos d) (pos 6)) h) in
+    let six = eqb-false d 6 (not_true (d == 6) k) in
+    and_both (int_le (pos 2) (pos (d + 1))) (int_le (pos (d + 1)) (pos 6)) (le_yes (pos 2) (pos (d + 1)) (omega (arith, int_facts, low))) (le_yes (pos (d + 1)) (pos 6) (omega (arith, int_facts, high, six)))
+
 -- the dimension of a formula whose operands stand
 pub formula_dim_fits : (scene : Scene) → IsWell scene → (f : Formula) → ((o : List ℕ) → is_among o (operands f) ≡ true → stands scene o ≡ true) → formula_fits scene f ≡ true → is_dim (pos (formula_dim scene f)) ≡ true
 formula_dim_fits scene well (Or a b) stand fits = standing_dim scene well a (stand a (among_here a (b ∷ [])))
@@ -153,3 +196,13 @@ formula_dim_fits scene well (And a b) stand fits = standing_dim scene well a (st
 formula_dim_fits scene well (Sub a b) stand fits = standing_dim scene well a (stand a (among_here a (b ∷ [])))
 formula_dim_fits scene well (Xor a b) stand fits = standing_dim scene well a (stand a (among_here a (b ∷ [])))
 formula_dim_fits scene well (Box dim nums) stand fits = dim_stated dim (and_first (is_dim dim) (length nums == 2 * nat_abs dim) fits)
+formula_dim_fits scene well (Shift a nums) stand fits = standing_dim scene well a (stand a (among_here a []))
+formula_dim_fits scene well (Mirror a axis) stand fits = standing_dim scene well a (stand a (among_here a []))
+formula_dim_fits scene well (Swap a i j) stand fits = standing_dim scene well a (stand a (among_here a []))
+formula_dim_fits scene well (Clip a nums) stand fits = standing_dim scene well a (stand a (among_here a []))
+formula_dim_fits scene well (Slice a axis at) stand fits =
+    dim_less (dim_of scene a) (standing_dim scene well a (stand a (among_here a []))) (and_first (not (dim_of scene a == 2)) (is_axis (dim_of scene a) axis) fits)
+formula_dim_fits scene well (Proj a axis) stand fits =
+    dim_less (dim_of scene a) (standing_dim scene well a (stand a (among_here a []))) (and_first (not (dim_of scene a == 2)) (is_axis (dim_of scene a) axis) fits)
+formula_dim_fits scene well (Lift a axis lo hi) stand fits =
+    dim_more (dim_of scene a) (standing_dim scene well a (stand a (among_here a []))) (and_first (not (dim_of scene a == 6)) (is_axis (dim_of scene a + 1) axis) fits)

@@ -12,8 +12,9 @@ use Rattle.evm_script.specs.declared.command.LineError.{LineError}
 use Rattle.evm_script.specs.declared.command.LineError.TheVariants as faults
 use Rattle.evm_model.specs.Scene.{Scene, start, dim_of, IsWell}
 use Rattle.evm_model.specs.Edits as codes
-use Rattle.evm_model.specs.Edits.{Edit, Input, Toggle, Add, Cut, Def, Drop, Code, Memory, first_cause, name_causes, place_causes, box_causes, def_causes, edit_causes, refusal, after}
+use Rattle.evm_model.specs.Edits.{Edit, Input, Toggle, Add, Cut, Def, Drop, Code, Memory, first_cause, name_causes, place_causes, section_causes, axis_causes, edit_causes, refusal, after}
 use Rattle.evm_model.specs.Replies.{Reply, Empty, No, Listed, is_no}
+use Rattle.evm_model.specs.Laws.{is_edit}
 use Rattle.evm_model.specs.Steps.{Turn, stays, unless_refused, edited, turn_of, line_turn, step}
 use Rattle.evm_model.proofs.EditLaws.{well_edit}
 use Rattle.evm_model.proofs.Names.{not_true}
@@ -74,12 +75,14 @@ mild_unless scene turn causes m n = by_cause (first_cause causes) refl
 mild_turn : (scene : Scene) (c : Command) → IsMild scene (turn_of scene c)
 mild_turn scene commands.Blank = mild_reply scene (stays scene Empty) refl
 mild_turn scene (commands.Input name dim) = mild_unless scene _ (edit_causes scene (Input name dim)) refl refl
-mild_turn scene (commands.Toggle name nums) = mild_unless scene _ (box_causes scene name nums) refl refl
-mild_turn scene (commands.Add name nums) = mild_unless scene _ (box_causes scene name nums) refl refl
-mild_turn scene (commands.Cut name nums) = mild_unless scene _ (box_causes scene name nums) refl refl
-mild_turn scene (commands.Def name formula) = mild_unless scene _ (def_causes scene name formula) refl refl
+mild_turn scene (commands.Toggle name nums) = mild_unless scene _ (edit_causes scene (Toggle name nums)) refl refl
+mild_turn scene (commands.Add name nums) = mild_unless scene _ (edit_causes scene (Add name nums)) refl refl
+mild_turn scene (commands.Cut name nums) = mild_unless scene _ (edit_causes scene (Cut name nums)) refl refl
+mild_turn scene (commands.Def name formula) = mild_unless scene _ (edit_causes scene (Def name formula)) refl refl
 mild_turn scene (commands.Drop name) = mild_unless scene _ (edit_causes scene (Drop name)) refl refl
 mild_turn scene (commands.Show name) = mild_unless scene _ (name_causes scene name) refl refl
+mild_turn scene (commands.Section name axis at) = mild_unless scene _ (section_causes scene name axis at) refl refl
+mild_turn scene (commands.Project name axis) = mild_unless scene _ (axis_causes scene name axis) refl refl
 mild_turn scene (commands.Content name) = mild_unless scene _ (name_causes scene name) refl refl
 mild_turn scene (commands.Boundary name) = mild_unless scene _ (name_causes scene name) refl refl
 mild_turn scene (commands.At name nums) = mild_unless scene _ (place_causes scene name nums (is_cell_coord (dim_of scene name))) refl refl
@@ -97,8 +100,34 @@ unfolding step
 mild_step scene line = mild_line scene (command line)
 
 -- the scene before the first line is well: nothing stands in it
+-- a question leaves the scene
+asked_leaves : (scene : Scene) (o : Option Code) (reply : Reply) → (unless_refused o scene (stays scene reply)).scene ≡ scene
+asked_leaves scene None reply = refl
+asked_leaves scene (Some code) reply = refl
+
+question_turn : (scene : Scene) (c : Command) → is_edit c ≡ false → (turn_of scene c).scene ≡ scene
+question_turn scene commands.Blank h = refl
+question_turn scene (commands.Input name dim) h = absurd (false≢true (sym h))
+question_turn scene (commands.Toggle name nums) h = absurd (false≢true (sym h))
+question_turn scene (commands.Add name nums) h = absurd (false≢true (sym h))
+question_turn scene (commands.Cut name nums) h = absurd (false≢true (sym h))
+question_turn scene (commands.Def name formula) h = absurd (false≢true (sym h))
+question_turn scene (commands.Drop name) h = absurd (false≢true (sym h))
+question_turn scene (commands.Show name) h = asked_leaves scene _ _
+question_turn scene (commands.Section name axis at) h = asked_leaves scene _ _
+question_turn scene (commands.Project name axis) h = asked_leaves scene _ _
+question_turn scene (commands.Content name) h = asked_leaves scene _ _
+question_turn scene (commands.Boundary name) h = asked_leaves scene _ _
+question_turn scene (commands.At name nums) h = asked_leaves scene _ _
+question_turn scene (commands.Point name nums) h = asked_leaves scene _ _
+question_turn scene commands.List h = refl
+
+pub question_leaves : (scene : Scene) (line : List ℕ) (c : Command) → command line ≡ Ok c → is_edit c ≡ false → (step scene line).scene ≡ scene
+unfolding step
+question_leaves scene line c e h = ap (λ (r : Result Command LineError). (line_turn scene r).scene) e ∙ question_turn scene c h
+
 pub well_start : IsWell start
-well_start = record { names = refl; dims = refl; sound = refl; order = []; ordered = tt; whole = λ x. refl; size = refl }
+well_start = record { names = refl; dims = refl; sound = refl; stay = refl; order = []; ordered = tt; whole = λ x. refl; size = refl }
 
 well_edited : (scene : Scene) (edit : Edit) (reply : Reply) → IsWell scene → IsWell (edited scene edit reply).scene
 well_edited scene edit reply well = by_cause (refusal scene edit) refl
@@ -120,6 +149,8 @@ well_turn scene (commands.Cut name nums) well = well_edited scene (Cut name nums
 well_turn scene (commands.Def name formula) well = well_edited scene (Def name formula) _ well
 well_turn scene (commands.Drop name) well = well_edited scene (Drop name) _ well
 well_turn scene (commands.Show name) well = well_asked scene _ _ well
+well_turn scene (commands.Section name axis at) well = well_asked scene _ _ well
+well_turn scene (commands.Project name axis) well = well_asked scene _ _ well
 well_turn scene (commands.Content name) well = well_asked scene _ _ well
 well_turn scene (commands.Boundary name) well = well_asked scene _ _ well
 well_turn scene (commands.At name nums) well = well_asked scene _ _ well

@@ -1,17 +1,37 @@
 -- Edits keep a scene well.
 use Rattle.std.proofs.Common.{◌≡◌, ℕ, ◌+◌, Bool, true, false, not, cond, ◌&&◌, ◌||◌, List, [], ◌∷◌, ◌++◌, length, filter, Option, Some, None, pos, refl, sym, ap, ◌∙◌, subst, is_some, bytes_eq, length-append, arith}
-use Rattle.std.specs.List.{list_any}
+use Rattle.std.specs.List.{list_any, list_all}
 use Rattle.std.proofs.lemmas.Bool.{false≢true}
+use Rattle.std.proofs.lemmas.List.Folds.{list_all-append}
 use Rattle.evm_cells.specs.Limits.{IsCellSet}
+use Rattle.evm_cells.proofs.Xor.{and-true}
 use Rattle.evm_script.specs.declared.formula.Formula.{Formula}
 use Rattle.evm_model.specs.Figures.{Figure}
 use Rattle.evm_model.specs.Orders.{is_among, AllSeen, Ordered}
-use Rattle.evm_model.specs.Scene.{What, Given, Made, Entry, Scene, has_name, entry_of, stands, dim_of, dim_of_entry, operands, what_operands, entry_operands, operands_of, reaches, is_read, with_entry, with_figure, with_new, without_name, formula_dim, is_dim, names_differ, what_is_sound, IsWell}
-use Rattle.evm_model.proofs.Names.{by_name, by_test, not_both, name_itself, different_names, or_left, or_right, or_none, neither, or-false, among_here, among_later, among_none, among-append, among_end, among_filter, some_passes, not_true}
+use Rattle.evm_model.specs.Scene.{What, Given, Made, Entry, Scene, has_name, entry_of, stands, dim_of, dim_of_entry, operands, what_operands, entry_operands, operands_of, reaches, is_read, with_entry, with_figure, with_new, without_name, formula_dim, is_dim, names_differ, what_is_sound, value, what_stays, all_stay, IsWell}
+use Rattle.evm_model.proofs.Names.{by_name, by_test, not_both, name_itself, different_names, or_left, or_right, or_none, or_second, neither, or-false, among_here, among_later, among_none, among-append, among_end, among_filter, not_true}
 use Rattle.evm_model.proofs.Lookups.{with_other, with_own, with_none, length-with, with_stands, differ_with, without_other, without_own, length-without, differ_without, push_other, push_own, length-push, differ_push, same_entry, no_some}
 use Rattle.evm_model.proofs.Counts.{same_length, ordered_differ}
 use Rattle.evm_model.proofs.Orders.{ordered_join, ordered_less, ordered_push, ordered_filter}
-use Rattle.evm_model.proofs.WellScenes.{well_reaches, well_never, well_operands, found_sound, found_dim, all_entries, what_sound_same, sound_cells}
+use Rattle.evm_model.proofs.Levels.{what_stays_same}
+use Rattle.evm_model.proofs.Stays.{is_before, before_parts, before_both, before_reads, at_new, at_drop, value_stays, other_stays, all_stay_at, unread_unreached}
+use Rattle.evm_model.proofs.WellScenes.{well_never, well_operands, found_sound, found_dim, all_entries, what_sound_same, sound_cells}
+
+-- what a well scene is but that no formula moves a cell out of the limits
+pub record IsOrderly (scene : Scene) : Type 0 where
+  pub names : names_differ scene.entries ≡ true
+  pub dims : list_all (λ (e : Entry). is_dim (pos e.dim)) scene.entries ≡ true
+  pub sound : list_all (λ (e : Entry). what_is_sound scene e.dim e.what) scene.entries ≡ true
+  pub order : List (List ℕ)
+  pub ordered : Ordered (operands_of scene.entries) [] order
+  pub whole : (x : List ℕ) → is_among x order ≡ stands scene x
+  pub size : length order ≡ length scene.entries
+
+pub well_orderly : (s : Scene) → IsWell s → IsOrderly s
+well_orderly s well = record { names = well.names; dims = well.dims; sound = well.sound; order = well.order; ordered = well.ordered; whole = well.whole; size = well.size }
+
+pub orderly_well : (s : Scene) → IsOrderly s → all_stay s ≡ true → IsWell s
+orderly_well s orderly stay = record { names = orderly.names; dims = orderly.dims; sound = orderly.sound; stay = stay; order = orderly.order; ordered = orderly.ordered; whole = orderly.whole; size = orderly.size }
 
 -- a scene with another entry, or none, under one name alone
 module _ (s u : Scene) (well : IsWell s) (name : List ℕ)
@@ -37,8 +57,8 @@ module _ (s u : Scene) (well : IsWell s) (name : List ℕ)
         sym (what_sound_same s u e.dim e.what (λ o m. still x o (subst (λ (t : Option Entry). is_among o (entry_operands t) ≡ true) (sym f) m))) ∙ found_sound s well x e f,
       )
 
-  pub well_after : (order : List (List ℕ)) → Ordered (operands_of u.entries) [] order → ((x : List ℕ) → is_among x order ≡ stands u x) → length order ≡ length u.entries → IsWell u
-  well_after order ordered whole size = record {
+  pub orderly_after : (order : List (List ℕ)) → Ordered (operands_of u.entries) [] order → ((x : List ℕ) → is_among x order ≡ stands u x) → length order ≡ length u.entries → IsOrderly u
+  orderly_after order ordered whole size = record {
     names = differ;
     dims = all_entries (λ (e : Entry). is_dim (pos e.dim)) u.entries differ (λ x e q. (entry_fits x e q).0);
     sound = all_entries (λ (e : Entry). what_is_sound u e.dim e.what) u.entries differ (λ x e q. (entry_fits x e q).1);
@@ -60,11 +80,11 @@ standing_dim s well name h = by (entry_of s.entries name) refl
     by None q = not_both (is_some (entry_of s.entries name)) h (ap (λ (t : Option Entry). is_some t) q)
     by (Some e) q = found_dim s well name e q
 
--- an input with another figure of the same dimension
-pub well_figure : (s : Scene) (name : List ℕ) (new : Figure) → IsWell s → dim_of s name ≡ new.dim → IsCellSet new.dim new.cells → IsWell (with_figure s name new)
-well_figure s name new well dim cells =
+-- a name with another figure of the same dimension
+pub orderly_figure : (s : Scene) (name : List ℕ) (new : Figure) → IsWell s → dim_of s name ≡ new.dim → IsCellSet new.dim new.cells → IsOrderly (with_figure s name new)
+orderly_figure s name new well dim cells =
     by_test (stands s name)
-    (λ h. well_after s u well name (λ x d. with_other s.entries name x entry refl d) (differ_with s.entries name entry refl well.names)
+    (λ h. orderly_after s u well name (λ x d. with_other s.entries name x entry refl d) (differ_with s.entries name entry refl well.names)
     (λ x m. ap (λ (t : Option Entry). dim_of_entry t) (with_own s.entries name entry refl h) ∙ sym dim)
     (λ e q. subst (λ (t : Entry). (is_dim (pos t.dim) ≡ true) × (what_is_sound u t.dim t.what ≡ true)) (same_entry entry e (sym (with_own s.entries name entry refl h) ∙ q))
     (subst (λ (n : ℕ). is_dim (pos n) ≡ true) dim (standing_dim s well name h), sound_cells new.dim new.cells cells))
@@ -72,7 +92,7 @@ well_figure s name new well dim cells =
     (ordered_less (operands_of s.entries) (operands_of u.entries) [] well.order (λ x m o r. less h x o r) well.ordered)
     (λ x. well.whole x ∙ sym (with_stands s.entries name x entry refl))
     (well.size ∙ sym (length-with s.entries name entry)))
-    (λ out. subst IsWell (λ i. record { entries = sym (with_none s.entries name entry out) i }) well)
+    (λ out. subst IsOrderly (λ i. record { entries = sym (with_none s.entries name entry out) i }) (well_orderly s well))
   where
     entry : Entry
     entry = record { name = name; dim = new.dim; what = Given new.cells }
@@ -86,17 +106,24 @@ well_figure s name new well dim cells =
         (λ e. among_none o (subst (λ (t : Option Entry). is_among o (entry_operands t) ≡ true) (ap (λ (z : List ℕ). entry_of u.entries z) e ∙ with_own s.entries name entry refl h) r))
         (λ d. subst (λ (t : Option Entry). is_among o (entry_operands t) ≡ true) (with_other s.entries name x entry refl d) r)
 
+pub well_figure : (s : Scene) (name : List ℕ) (new : Figure) → IsWell s → dim_of s name ≡ new.dim → IsCellSet new.dim new.cells → all_stay (with_figure s name new) ≡ true → IsWell (with_figure s name new)
+well_figure s name new well dim cells stay = orderly_well (with_figure s name new) (orderly_figure s name new well dim cells) stay
+
+-- a name that stands is none that does not
+apart_new : (s : Scene) (name : List ℕ) → stands s name ≡ false → (o : List ℕ) → stands s o ≡ true → bytes_eq o name ≡ false
+apart_new s name out o h = different_names o name (λ e. false≢true (sym out ∙ ap (λ (z : List ℕ). stands s z) (sym e) ∙ h))
+
 -- a new name
-pub well_new : (s : Scene) (name : List ℕ) (dim : ℕ) (what : What) → IsWell s → stands s name ≡ false → is_dim (pos dim) ≡ true → what_is_sound s dim what ≡ true
-    → ((o : List ℕ) → is_among o (what_operands what) ≡ true → stands s o ≡ true) → IsWell (with_new s name dim what)
-well_new s name dim what well out d sound stand =
-    well_after s u well name (λ x k. push_other s.entries entry x k) (differ_push s.entries entry well.names out)
+orderly_new : (s : Scene) (name : List ℕ) (dim : ℕ) (what : What) → IsWell s → stands s name ≡ false → is_dim (pos dim) ≡ true → what_is_sound s dim what ≡ true
+    → ((o : List ℕ) → is_among o (what_operands what) ≡ true → stands s o ≡ true) → IsOrderly (with_new s name dim what)
+orderly_new s name dim what well out d sound stand =
+    orderly_after s u well name (λ x k. push_other s.entries entry x k) (differ_push s.entries entry well.names out)
     (λ x m. not_both (stands s name) (well_operands s well x name m) out)
     (λ e q. subst (λ (t : Entry). (is_dim (pos t.dim) ≡ true) × (what_is_sound u t.dim t.what ≡ true)) (same_entry entry e (sym (push_own s.entries entry out) ∙ q))
-    (d, sym (what_sound_same s u dim what (λ o m. ap (λ (t : Option Entry). dim_of_entry t) (sym (push_other s.entries entry o (apart_name o (stand o m)))))) ∙ sound))
+    (d, sym (what_sound_same s u dim what (λ o m. ap (λ (t : Option Entry). dim_of_entry t) (sym (push_other s.entries entry o (apart_new s name out o (stand o m)))))) ∙ sound))
     (well.order ++ name ∷ [])
     (ordered_push (operands_of u.entries) [] well.order name
-    (ordered_less (operands_of s.entries) (operands_of u.entries) [] well.order (λ x m o r. subst (λ (t : Option Entry). is_among o (entry_operands t) ≡ true) (push_other s.entries entry x (apart_name x (sym (well.whole x) ∙ m))) r) well.ordered)
+    (ordered_less (operands_of s.entries) (operands_of u.entries) [] well.order (λ x m o r. subst (λ (t : Option Entry). is_among o (entry_operands t) ≡ true) (push_other s.entries entry x (apart_new s name out x (sym (well.whole x) ∙ m))) r) well.ordered)
     refl (well.whole name ∙ out)
     (λ o m. well.whole o ∙ stand o (subst (λ (t : Option Entry). is_among o (entry_operands t) ≡ true) (push_own s.entries entry out) m)))
     (λ x. among_end x name well.order ∙ ends x)
@@ -108,9 +135,6 @@ well_new s name dim what well out d sound stand =
     u : Scene
     u = with_new s name dim what
 
-    apart_name : (o : List ℕ) → stands s o ≡ true → bytes_eq o name ≡ false
-    apart_name o h = different_names o name (λ e. false≢true (sym out ∙ ap (λ (z : List ℕ). stands s z) (sym e) ∙ h))
-
     ends : (x : List ℕ) → (is_among x well.order || bytes_eq x name) ≡ stands u x
     ends x =
         by_name x name
@@ -118,31 +142,43 @@ well_new s name dim what well out d sound stand =
         ∙ sym (ap (λ (z : List ℕ). stands u z) e ∙ ap (λ (t : Option Entry). is_some t) (push_own s.entries entry out)))
         (λ k. ap (λ (b : Bool). is_among x well.order || b) k ∙ or-false (is_among x well.order) ∙ well.whole x ∙ ap (λ (t : Option Entry). is_some t) (sym (push_other s.entries entry x k)))
 
--- the names that neither are one nor reach it
-abbrev pub is_before : Scene → List ℕ → List ℕ → Bool
-is_before s name x = not (bytes_eq x name || reaches s x name)
+-- a new name moves a cell out of the limits where its own formula does
+pub stay_new : (s : Scene) (name : List ℕ) (dim : ℕ) (what : What) → IsWell s → stands s name ≡ false
+    → ((o : List ℕ) → is_among o (what_operands what) ≡ true → stands s o ≡ true) → all_stay (with_new s name dim what) ≡ what_stays what (value s)
+stay_new s name dim what well out stand =
+    list_all-append passes s.entries (entry ∷ [])
+    ∙ ap (λ (b : Bool). b && (passes entry && true)) (all_entries passes s.entries well.names old)
+    ∙ and-true (passes entry)
+    ∙ what_stays_same what (value u) (value s) (λ o m. value_stays s well name u (at_new s name dim what) o (apart_new s name out o (stand o m)) (unreached o))
+  where
+    entry : Entry
+    entry = record { name = name; dim = dim; what = what }
 
-pub before_parts : (s : Scene) (name x : List ℕ) → is_before s name x ≡ true → (bytes_eq x name ≡ false) × (reaches s x name ≡ false)
-before_parts s name x h = or_none (bytes_eq x name) (reaches s x name) (not_true (bytes_eq x name || reaches s x name) h)
+    u : Scene
+    u = with_new s name dim what
 
-pub before_both : (s : Scene) (name x : List ℕ) → bytes_eq x name ≡ false → reaches s x name ≡ false → is_before s name x ≡ true
-before_both s name x d r = ap not (neither (bytes_eq x name) (reaches s x name) d r)
+    passes : Entry → Bool
+    passes e = what_stays e.what (value u)
 
--- what such a name reads is such a name
-pub before_reads : (s : Scene) → IsWell s → (name x : List ℕ) → is_before s name x ≡ true → (o : List ℕ) → is_among o (operands_of s.entries x) ≡ true → is_before s name o ≡ true
-before_reads s well name x h o m =
-    by_test (bytes_eq o name || reaches s o name)
-    (λ t. not_both (reaches s x name)
-    (well_reaches s well x name ∙ some_passes (λ z. bytes_eq z name || reaches s z name) (operands_of s.entries x) o m t)
-    (before_parts s name x h).1)
-    (λ t. ap not t)
+    unreached : (x : List ℕ) → reaches s x name ≡ false
+    unreached x = unread_unreached s name x well (λ y. by_test (is_among name (operands_of s.entries y)) (λ m. not_both (stands s name) (well_operands s well y name m) out) (λ m. m))
+
+    old : (x : List ℕ) (e : Entry) → entry_of s.entries x ≡ Some e → passes e ≡ true
+    old x e q =
+        let d = apart_new s name out x (ap (λ (t : Option Entry). is_some t) q) in
+        other_stays s well name u (at_new s name dim what) x e d (unreached x) (push_other s.entries entry x d ∙ q)
+
+pub well_new : (s : Scene) (name : List ℕ) (dim : ℕ) (what : What) → IsWell s → stands s name ≡ false → is_dim (pos dim) ≡ true → what_is_sound s dim what ≡ true
+    → ((o : List ℕ) → is_among o (what_operands what) ≡ true → stands s o ≡ true) → what_stays what (value s) ≡ true → IsWell (with_new s name dim what)
+well_new s name dim what well out d sound stand stay =
+    orderly_well (with_new s name dim what) (orderly_new s name dim what well out d sound stand) (stay_new s name dim what well out stand ∙ stay)
 
 -- another formula under a name that stands, which none of its operands is or reaches
-pub well_formula : (s : Scene) (name : List ℕ) (f : Formula) → IsWell s → stands s name ≡ true → formula_dim s f ≡ dim_of s name → what_is_sound s (formula_dim s f) (Made f) ≡ true
+orderly_formula : (s : Scene) (name : List ℕ) (f : Formula) → IsWell s → stands s name ≡ true → formula_dim s f ≡ dim_of s name → what_is_sound s (formula_dim s f) (Made f) ≡ true
     → ((o : List ℕ) → is_among o (operands f) ≡ true → stands s o ≡ true) → ((o : List ℕ) → is_among o (operands f) ≡ true → is_before s name o ≡ true)
-    → IsWell (record { entries = with_entry s.entries name (record { name = name; dim = formula_dim s f; what = Made f }) })
-well_formula s name f well h dim sound stand free =
-    well_after s u well name other (differ_with s.entries name entry refl well.names)
+    → IsOrderly (record { entries = with_entry s.entries name (record { name = name; dim = formula_dim s f; what = Made f }) })
+orderly_formula s name f well h dim sound stand free =
+    orderly_after s u well name other (differ_with s.entries name entry refl well.names)
     (λ x m. own_dim)
     (λ e q. subst (λ (t : Entry). (is_dim (pos t.dim) ≡ true) × (what_is_sound u t.dim t.what ≡ true)) (same_entry entry e (sym here ∙ q)) (
       subst (λ (n : ℕ). is_dim (pos n) ≡ true) (sym dim) (standing_dim s well name h),
@@ -245,6 +281,12 @@ well_formula s name f well h dim sound stand free =
     same_names : (x : List ℕ) → is_among x (front ++ name ∷ later) ≡ stands u x
     same_names x = whole x ∙ well.whole x ∙ sym (with_stands s.entries name x entry refl)
 
+pub well_formula : (s : Scene) (name : List ℕ) (f : Formula) → IsWell s → stands s name ≡ true → formula_dim s f ≡ dim_of s name → what_is_sound s (formula_dim s f) (Made f) ≡ true
+    → ((o : List ℕ) → is_among o (operands f) ≡ true → stands s o ≡ true) → ((o : List ℕ) → is_among o (operands f) ≡ true → is_before s name o ≡ true)
+    → all_stay (record { entries = with_entry s.entries name (record { name = name; dim = formula_dim s f; what = Made f }) }) ≡ true
+    → IsWell (record { entries = with_entry s.entries name (record { name = name; dim = formula_dim s f; what = Made f }) })
+well_formula s name f well h dim sound stand free stay = orderly_well _ (orderly_formula s name f well h dim sound stand free) stay
+
 -- what no entry passes, none that is found passes
 found_fails : (p : Entry → Bool) (es : List Entry) (x : List ℕ) (e : Entry) → entry_of es x ≡ Some e → list_any p es ≡ false → p e ≡ false
 found_fails p [] x e f h = no_some e f
@@ -263,9 +305,9 @@ unread s name h x = by (entry_of s.entries x) refl
     by (Some e) q = found_fails (λ (y : Entry). is_among name (what_operands y.what)) s.entries x e q h
 
 -- a name that is not read, taken out
-pub well_without : (s : Scene) (name : List ℕ) → IsWell s → stands s name ≡ true → is_read s name ≡ false → IsWell (without_name s name)
-well_without s name well h free =
-    well_after s u well name other (differ_without s.entries name well.names)
+orderly_without : (s : Scene) (name : List ℕ) → IsWell s → stands s name ≡ true → is_read s name ≡ false → IsOrderly (without_name s name)
+orderly_without s name well h free =
+    orderly_after s u well name other (differ_without s.entries name well.names)
     (λ x m. not_both (is_among name (operands_of s.entries x)) m (unread s name free x))
     (λ e q. no_some e (sym gone ∙ q))
     rest
@@ -311,3 +353,15 @@ well_without s name well h free =
 
     longer : length rest + 1 ≡ length well.order
     longer = omega (arith, same_length (name ∷ rest) well.order (name_out, ordered_differ (operands_of u.entries) [] rest rest_order) (ordered_differ (operands_of s.entries) [] well.order well.ordered) all_names)
+
+-- the names that are left read what they read, whose values stay
+pub well_without : (s : Scene) (name : List ℕ) → IsWell s → stands s name ≡ true → is_read s name ≡ false → IsWell (without_name s name)
+well_without s name well h free =
+    orderly_well u (orderly_without s name well h free)
+    (all_stay_at s well name u (at_drop s name) (differ_without s.entries name well.names)
+    (λ x e t q. by_name x name
+    (λ k. no_some e (sym (ap (λ (z : List ℕ). entry_of u.entries z) k ∙ without_own s.entries name well.names) ∙ q))
+    (λ d. not_both (reaches s x name) (or_second (bytes_eq x name) (reaches s x name) t d) (unread_unreached s name x well (unread s name free)))))
+  where
+    u : Scene
+    u = without_name s name

@@ -1,23 +1,28 @@
 -- What holds in each well scene: values follow their formulas, operands stand, no name reaches itself, and values have the
 -- dimension of their names and are cell sets.
-use Rattle.std.proofs.Common.{◌≡◌, ℕ, ◌*◌, ◌==◌, Bool, true, false, not, cond, ◌&&◌, ◌||◌, List, [], ◌∷◌, length, take, drop, Option, Some, None, ℤ, pos, refl, sym, ap, ◌∙◌, subst, is_some, bytes_eq, arith}
+use Rattle.std.proofs.Common.{◌≡◌, ℕ, ◌+◌, ◌-◌, ◌*◌, ◌==◌, Bool, true, false, not, cond, ◌&&◌, ◌||◌, List, [], ◌∷◌, length, take, drop, filter, map, Option, Some, None, ℤ, pos, refl, sym, ap, ◌∙◌, subst, is_some, bytes_eq, arith}
 use Rattle.std.specs.Prelude.{nat_abs}
 use Rattle.std.specs.List.{list_any, list_all}
 use Rattle.std.proofs.lemmas.Bool.Decides.{Decides-eqb}
 use Rattle.std.proofs.lemmas.List.{length-take-le}
 use Rattle.evm_cells.specs.Places.{ascending}
-use Rattle.evm_cells.specs.Limits.{IsCellSet, is_cell}
+use Rattle.evm_cells.specs.Limits.{IsCellSet, is_cell, is_cell_coord}
 use Rattle.evm_cells.proofs.Booleans.{cell_sets}
+use Rattle.evm_cells.specs.Boxes.{box_cells}
+use Rattle.evm_cells.specs.Shapes.{added, clip, is_shift, shift, shift_fits}
 use Rattle.evm_cells.proofs.Corners.{cell_set-box}
+use Rattle.evm_cells.proofs.Slices.{cell_set-slice}
+use Rattle.evm_cells.proofs.Moves.{cell_set-mirror, cell_set-swap, cell_set-shift}
+use Rattle.evm_cells.proofs.Lifts.{cell_set-lift, cell_set-proj}
 use Rattle.evm_cells.proofs.Xor.{and_first, and_second, and_both}
 use Rattle.evm_script.specs.declared.formula.Formula.{Formula}
-use Rattle.evm_script.specs.declared.formula.Formula.TheVariants.{Or, And, Sub, Xor, Box}
-use Rattle.evm_model.specs.Figures.{Figure, nothing, box_of, box_at, or_of, and_of, sub_of, xor_of}
+use Rattle.evm_script.specs.declared.formula.Formula.TheVariants.{Or, And, Sub, Xor, Box, Shift, Mirror, Swap, Clip, Slice, Proj, Lift}
+use Rattle.evm_model.specs.Figures.{Figure, nothing, box_of, box_at, box_fits, low_of, high_of, or_of, and_of, sub_of, xor_of, shift_of, shift_stays, mirror_of, swap_of, clip_of, slice_of, proj_of, lift_of}
 use Rattle.evm_model.specs.Orders.{is_among}
-use Rattle.evm_model.specs.Scene.{What, Given, Made, Entry, Scene, has_name, entry_of, stands, dim_of, dim_of_entry, operands, what_operands, entry_operands, operands_of, formula_value, what_value, entry_value, value, reaches, is_dim, formula_dim, formula_fits, formula_in_range, names_differ, what_is_sound, IsWell}
-use Rattle.evm_model.proofs.Names.{by_test, not_both, same_name, name_itself, among_here, among_later, not_true}
+use Rattle.evm_model.specs.Scene.{What, Given, Made, Entry, Scene, has_name, entry_of, stands, dim_of, dim_of_entry, operands, what_operands, entry_operands, operands_of, formula_value, what_value, what_stays, entry_value, value, reaches, is_dim, is_axis, is_range, formula_dim, formula_fits, formula_in_range, names_differ, what_is_sound, IsWell}
+use Rattle.evm_model.proofs.Names.{by_test, not_both, same_name, name_itself, among_here, among_later, among_none, not_true}
 use Rattle.evm_model.proofs.Lookups.{stands_any, none_stands, found_passes}
-use Rattle.evm_model.proofs.Levels.{value_step, value_unique, reaches_step, reaches_from_none, never_itself, operands_stand, fixed_agree}
+use Rattle.evm_model.proofs.Levels.{value_step, value_unique, reaches_step, reaches_from_none, never_itself, operands_stand, fixed_agree, along}
 
 pub well_value : (scene : Scene) → IsWell scene → (x : List ℕ) → value scene x ≡ entry_value (entry_of scene.entries x) (value scene)
 well_value scene well x = value_step scene well.order well.ordered well.whole well.size x
@@ -44,6 +49,13 @@ formula_dim_at (And a b) g = g a
 formula_dim_at (Sub a b) g = g a
 formula_dim_at (Xor a b) g = g a
 formula_dim_at (Box dim nums) g = nat_abs dim
+formula_dim_at (Shift a nums) g = g a
+formula_dim_at (Mirror a axis) g = g a
+formula_dim_at (Swap a i j) g = g a
+formula_dim_at (Clip a nums) g = g a
+formula_dim_at (Slice a axis at) g = g a - 1
+formula_dim_at (Proj a axis) g = g a - 1
+formula_dim_at (Lift a axis lo hi) g = g a + 1
 
 abbrev what_dim_at : ℕ → What → (List ℕ → ℕ) → ℕ
 what_dim_at n (Given cells) g = n
@@ -59,6 +71,13 @@ formula_dim_same (And a b) g h same = same a (among_here a (b ∷ []))
 formula_dim_same (Sub a b) g h same = same a (among_here a (b ∷ []))
 formula_dim_same (Xor a b) g h same = same a (among_here a (b ∷ []))
 formula_dim_same (Box dim nums) g h same = refl
+formula_dim_same (Shift a nums) g h same = same a (among_here a [])
+formula_dim_same (Mirror a axis) g h same = same a (among_here a [])
+formula_dim_same (Swap a i j) g h same = same a (among_here a [])
+formula_dim_same (Clip a nums) g h same = same a (among_here a [])
+formula_dim_same (Slice a axis at) g h same = ap (λ (k : ℕ). k - 1) (same a (among_here a []))
+formula_dim_same (Proj a axis) g h same = ap (λ (k : ℕ). k - 1) (same a (among_here a []))
+formula_dim_same (Lift a axis lo hi) g h same = ap (λ (k : ℕ). k + 1) (same a (among_here a []))
 
 entry_dim_same : (e : Option Entry) (g h : List ℕ → ℕ) → ((o : List ℕ) → is_among o (entry_operands e) ≡ true → g o ≡ h o) → entry_dim_at e g ≡ entry_dim_at e h
 entry_dim_same None g h same = refl
@@ -93,9 +112,20 @@ pub box_dim : (n : ℕ) (nums : List ℤ) → length nums ≡ 2 * n → (box_at 
 unfolding box_of
 box_dim n nums both = length-take-le n nums (omega arith)
 
+-- where each moved item passes a test, the moved items that pass are all
+all_moved : {X Y : Type 0} (p : Y → Bool) (f : X → Y) (xs : List X) → list_all (λ x. p (f x)) xs ≡ true → filter p (map f xs) ≡ map f xs
+all_moved p f [] h = refl
+all_moved {X} {Y} p f (x ∷ xs) h =
+    ap (λ (b : Bool). cond b (f x ∷ filter p (map f xs)) (filter p (map f xs))) (and_first (p (f x)) (list_all (λ y. p (f y)) xs) h)
+    ∙ ap (λ (ys : List Y). f x ∷ ys) (all_moved p f xs (and_second (p (f x)) (list_all (λ y. p (f y)) xs) h))
+
 module _ (scene : Scene) (well : IsWell scene) where
   pub found_sound : (x : List ℕ) (e : Entry) → entry_of scene.entries x ≡ Some e → what_is_sound scene e.dim e.what ≡ true
   found_sound x e q = found_passes (λ (y : Entry). what_is_sound scene y.dim y.what) scene.entries x e q well.sound
+
+  -- no formula moves a cell out of the limits
+  pub found_stays : (x : List ℕ) (e : Entry) → entry_of scene.entries x ≡ Some e → what_stays e.what (value scene) ≡ true
+  found_stays x e q = found_passes (λ (y : Entry). what_stays y.what (value scene)) scene.entries x e q well.stay
 
   pub found_dim : (x : List ℕ) (e : Entry) → entry_of scene.entries x ≡ Some e → is_dim (pos e.dim) ≡ true
   found_dim x e q = found_passes (λ (y : Entry). is_dim (pos y.dim)) scene.entries x e q well.dims
@@ -109,6 +139,13 @@ module _ (scene : Scene) (well : IsWell scene) where
       by_formula n (Sub a b) h = sym h
       by_formula n (Xor a b) h = sym h
       by_formula n (Box dim nums) h = sym h
+      by_formula n (Shift a nums) h = sym h
+      by_formula n (Mirror a axis) h = sym h
+      by_formula n (Swap a i j) h = sym h
+      by_formula n (Clip a nums) h = sym h
+      by_formula n (Slice a axis at) h = sym h
+      by_formula n (Proj a axis) h = sym h
+      by_formula n (Lift a axis lo hi) h = sym h
 
       by_what : (n : ℕ) (what : What) → what_is_sound scene n what ≡ true → n ≡ what_dim_at n what (dim_of scene)
       by_what n (Given cells) h = refl
@@ -119,7 +156,7 @@ module _ (scene : Scene) (well : IsWell scene) where
       by (Some e) q = by_what e.dim e.what (found_sound x e q)
 
   value_dim_fixed : (x : List ℕ) → (value scene x).dim ≡ entry_dim_at (entry_of scene.entries x) (λ o. (value scene o).dim)
-  unfolding nothing or_of and_of sub_of xor_of
+  unfolding nothing or_of and_of sub_of xor_of shift_of mirror_of swap_of clip_of slice_of proj_of lift_of
   value_dim_fixed x = ap (λ (a : Figure). a.dim) (well_value scene well x) ∙ by (entry_of scene.entries x) refl
     where
       by_formula : (n : ℕ) (f : Formula) → what_is_sound scene n (Made f) ≡ true → (formula_value f (value scene)).dim ≡ formula_dim_at f (λ o. (value scene o).dim)
@@ -129,6 +166,13 @@ module _ (scene : Scene) (well : IsWell scene) where
       by_formula n (Xor a b) h = refl
       by_formula n (Box dim nums) h =
           box_dim (nat_abs dim) nums ((Decides-eqb (length nums) (2 * nat_abs dim)).0 (and_second (is_dim dim) (length nums == 2 * nat_abs dim) (sound_fits scene n (Box dim nums) h)))
+      by_formula n (Shift a nums) h = refl
+      by_formula n (Mirror a axis) h = refl
+      by_formula n (Swap a i j) h = refl
+      by_formula n (Clip a nums) h = refl
+      by_formula n (Slice a axis at) h = refl
+      by_formula n (Proj a axis) h = refl
+      by_formula n (Lift a axis lo hi) h = refl
 
       by_what : (n : ℕ) (what : What) → what_is_sound scene n what ≡ true → (what_value n what (value scene)).dim ≡ what_dim_at n what (λ o. (value scene o).dim)
       by_what n (Given cells) h = refl
@@ -151,23 +195,48 @@ module _ (scene : Scene) (well : IsWell scene) where
 
   -- each value is a cell set
   pub value_cells : (x : List ℕ) → IsCellSet (value scene x).dim (value scene x).cells
-  unfolding nothing ascending or_of and_of sub_of xor_of box_of
-  value_cells x = subst (λ (a : Figure). IsCellSet a.dim a.cells) (sym (well_value scene well x)) (by (entry_of scene.entries x) refl)
+  unfolding nothing ascending or_of and_of sub_of xor_of box_of shift_of mirror_of swap_of clip_of slice_of proj_of lift_of clip
+  value_cells x =
+      by_test (is_among x well.order)
+      (λ l. along (operands_of scene.entries) (λ y. IsCellSet (value scene y).dim (value scene y).cells) from_operands [] well.order well.ordered (λ y m. among_none y m) x l)
+      (λ out. from_operands x (λ o m. among_none o (subst (λ (t : Option Entry). is_among o (entry_operands t) ≡ true) (none_stands scene.entries x (sym (well.whole x) ∙ out)) m)))
     where
-      by_formula : (f : Formula) → IsCellSet (formula_value f (value scene)).dim (formula_value f (value scene)).cells
-      by_formula (Or a b) = (cell_sets (value scene a).dim (value scene a).cells (value scene b).cells).0
-      by_formula (And a b) = (cell_sets (value scene a).dim (value scene a).cells (value scene b).cells).1
-      by_formula (Sub a b) = (cell_sets (value scene a).dim (value scene a).cells (value scene b).cells).2
-      by_formula (Xor a b) = (cell_sets (value scene a).dim (value scene a).cells (value scene b).cells).3
-      by_formula (Box dim nums) = cell_set-box (length (take (nat_abs dim) nums)) (take (nat_abs dim) nums) (drop (nat_abs dim) nums)
+      by_formula : (n : ℕ) (f : Formula) → what_is_sound scene n (Made f) ≡ true → ((o : List ℕ) → is_among o (operands f) ≡ true → IsCellSet (value scene o).dim (value scene o).cells)
+          → IsCellSet (formula_value f (value scene)).dim (formula_value f (value scene)).cells
+      by_formula n (Or a b) h sets = (cell_sets (value scene a).dim (value scene a).cells (value scene b).cells).0
+      by_formula n (And a b) h sets = (cell_sets (value scene a).dim (value scene a).cells (value scene b).cells).1
+      by_formula n (Sub a b) h sets = (cell_sets (value scene a).dim (value scene a).cells (value scene b).cells).2
+      by_formula n (Xor a b) h sets = (cell_sets (value scene a).dim (value scene a).cells (value scene b).cells).3
+      by_formula n (Box dim nums) h sets = cell_set-box (length (take (nat_abs dim) nums)) (take (nat_abs dim) nums) (drop (nat_abs dim) nums)
+      by_formula n (Shift a nums) h sets =
+          cell_set-shift (value scene a).dim nums (value scene a).cells
+          ((Decides-eqb (length nums) (dim_of scene a)).0 (sound_fits scene n (Shift a nums) h) ∙ value_dim a)
+          (sets a (among_here a []))
+      by_formula n (Mirror a axis) h sets = cell_set-mirror (value scene a).dim (nat_abs axis - 1) (value scene a).cells
+      by_formula n (Swap a i j) h sets = cell_set-swap (value scene a).dim (nat_abs i - 1) (nat_abs j - 1) (value scene a).cells
+      by_formula n (Clip a nums) h sets = (cell_sets (value scene a).dim (value scene a).cells (box_cells (value scene a).dim (low_of (value scene a).dim nums) (high_of (value scene a).dim nums))).1
+      by_formula n (Slice a axis at) h sets = cell_set-slice ((value scene a).dim - 1) (nat_abs axis - 1) at (value scene a).cells
+      by_formula n (Proj a axis) h sets = cell_set-proj ((value scene a).dim - 1) (nat_abs axis - 1) (value scene a).cells
+      by_formula n (Lift a axis lo hi) h sets = cell_set-lift ((value scene a).dim + 1) (nat_abs axis - 1) lo hi (value scene a).cells
 
-      by_what : (n : ℕ) (what : What) → what_is_sound scene n what ≡ true → IsCellSet (what_value n what (value scene)).dim (what_value n what (value scene)).cells
-      by_what n (Given cells) h = record { ascends = and_first (ascending cells) (list_all (is_cell n) cells) h; cells = and_second (ascending cells) (list_all (is_cell n) cells) h }
-      by_what n (Made f) h = by_formula f
+      by_what : (n : ℕ) (what : What) → what_is_sound scene n what ≡ true → ((o : List ℕ) → is_among o (what_operands what) ≡ true → IsCellSet (value scene o).dim (value scene o).cells)
+          → IsCellSet (what_value n what (value scene)).dim (what_value n what (value scene)).cells
+      by_what n (Given cells) h sets = record { ascends = and_first (ascending cells) (list_all (is_cell n) cells) h; cells = and_second (ascending cells) (list_all (is_cell n) cells) h }
+      by_what n (Made f) h sets = by_formula n f h sets
 
-      by : (o : Option Entry) → entry_of scene.entries x ≡ o → IsCellSet (entry_value o (value scene)).dim (entry_value o (value scene)).cells
-      by None q = record { ascends = refl; cells = refl }
-      by (Some e) q = by_what e.dim e.what (found_sound x e q)
+      from_operands : (y : List ℕ) → ((o : List ℕ) → is_among o (operands_of scene.entries y) ≡ true → IsCellSet (value scene o).dim (value scene o).cells) → IsCellSet (value scene y).dim (value scene y).cells
+      from_operands y sets = subst (λ (a : Figure). IsCellSet a.dim a.cells) (sym (well_value scene well y)) (by (entry_of scene.entries y) refl)
+        where
+          by : (t : Option Entry) → entry_of scene.entries y ≡ t → IsCellSet (entry_value t (value scene)).dim (entry_value t (value scene)).cells
+          by None q = record { ascends = refl; cells = refl }
+          by (Some e) q = by_what e.dim e.what (found_sound y e q) (λ o m. sets o (subst (λ (t : Option Entry). is_among o (entry_operands t) ≡ true) (sym q) m))
+
+  -- a shift has each cell of its operand, moved
+  pub shift_cells : (x o : List ℕ) (nums : List ℤ) (e : Entry) → entry_of scene.entries x ≡ Some e → e.what ≡ Made (Shift o nums) → (value scene x).cells ≡ map (added nums) (value scene o).cells
+  unfolding shift_of shift_stays shift shift_fits
+  shift_cells x o nums e q f =
+      ap (λ (a : Figure). a.cells) (well_value scene well x ∙ ap (λ (t : Option Entry). entry_value t (value scene)) q ∙ ap (λ (w : What). what_value e.dim w (value scene)) f)
+      ∙ all_moved (is_cell (value scene o).dim) (added nums) (value scene o).cells (sym (ap (λ (w : What). what_stays w (value scene)) f) ∙ found_stays x e q)
 
 -- what each entry that is found passes, all entries pass, where names differ
 pub all_entries : (p : Entry → Bool) (es : List Entry) → names_differ es ≡ true → ((x : List ℕ) (e : Entry) → entry_of es x ≡ Some e → p e ≡ true) → list_all p es ≡ true
@@ -197,6 +266,13 @@ formula_sound_same s u n (And a b) same = both_sound s u n a b same
 formula_sound_same s u n (Sub a b) same = both_sound s u n a b same
 formula_sound_same s u n (Xor a b) same = both_sound s u n a b same
 formula_sound_same s u n (Box dim nums) same = refl
+formula_sound_same s u n (Shift a nums) same = ap (λ (k : ℕ). (length nums == k) && is_shift k nums && (k == n)) (same a (among_here a []))
+formula_sound_same s u n (Mirror a axis) same = ap (λ (k : ℕ). is_axis k axis && true && (k == n)) (same a (among_here a []))
+formula_sound_same s u n (Swap a i j) same = ap (λ (k : ℕ). (is_axis k i && is_axis k j) && true && (k == n)) (same a (among_here a []))
+formula_sound_same s u n (Clip a nums) same = ap (λ (k : ℕ). (length nums == 2 * k) && box_fits (low_of k nums) (high_of k nums) && (k == n)) (same a (among_here a []))
+formula_sound_same s u n (Slice a axis at) same = ap (λ (k : ℕ). (not (k == 2) && is_axis k axis) && is_cell_coord k at && (k - 1 == n)) (same a (among_here a []))
+formula_sound_same s u n (Proj a axis) same = ap (λ (k : ℕ). (not (k == 2) && is_axis k axis) && true && (k - 1 == n)) (same a (among_here a []))
+formula_sound_same s u n (Lift a axis lo hi) same = ap (λ (k : ℕ). (not (k == 6) && is_axis (k + 1) axis) && is_range (k + 1) lo hi && (k + 1 == n)) (same a (among_here a []))
 
 pub what_sound_same : (s u : Scene) (n : ℕ) (what : What) → ((o : List ℕ) → is_among o (what_operands what) ≡ true → dim_of s o ≡ dim_of u o) → what_is_sound s n what ≡ what_is_sound u n what
 what_sound_same s u n (Given cells) same = refl

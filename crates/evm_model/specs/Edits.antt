@@ -1,9 +1,10 @@
 -- Edits of a scene: what refuses them, what they leave, and how many names they change.
-use Rattle.std.specs.Prelude.{ℕ, ◌*◌, ◌==◌, Bool, not, ◌&&◌, ◌||◌, if◌then◌else◌, ℤ, nat_abs, List, [], ◌∷◌, length, Option, None, Some, count_by, bytes_eq}
+use Rattle.std.specs.Prelude.{ℕ, ◌*◌, ◌==◌, Bool, not, ◌&&◌, ◌||◌, if◌then◌else◌, ℤ, nat_abs, List, [], ◌∷◌, ◌++◌, length, Option, None, Some, count_by, bytes_eq}
 use Rattle.std.specs.List.{list_any, list_all}
+use Rattle.evm_cells.specs.Limits.{is_cell_coord}
 use Rattle.evm_script.specs.declared.formula.Formula.{Formula}
 use Rattle.evm_model.specs.Figures.{Figure, low_of, high_of, box_at, xor_of, or_of, sub_of, box_fits, same_figure}
-use Rattle.evm_model.specs.Scene.{Scene, Entry, Given, stands, is_input, is_read, dim_of, value, reaches, operands, formula_dim, formula_fits, formula_in_range, with_figure, with_formula, with_new, without_name, is_dim}
+use Rattle.evm_model.specs.Scene.{Scene, Entry, Given, stands, is_input, is_read, dim_of, value, reaches, operands, formula_dim, formula_fits, formula_in_range, is_axis, all_stay, with_figure, with_formula, with_new, without_name, is_dim}
 
 -- an edit: a name, and the dimension of a new input, the numbers of a box, a formula, or nothing more
 pub data Edit : Type 0 where
@@ -55,6 +56,18 @@ place_causes scene name nums in_limits =
     ∷ (not (list_all in_limits nums), Range)
     ∷ []
 
+-- what refuses a question about sections at a height on an axis
+abbrev pub section_causes : Scene → List ℕ → ℤ → ℤ → List (Bool × Code)
+section_causes scene name axis at =
+    (not (stands scene name), Name)
+    ∷ (not (is_axis (dim_of scene name) axis), Dim)
+    ∷ (not (is_cell_coord (dim_of scene name) at), Range)
+    ∷ []
+
+-- what refuses a question about an axis
+abbrev pub axis_causes : Scene → List ℕ → ℤ → List (Bool × Code)
+axis_causes scene name axis = (not (stands scene name), Name) ∷ (not (is_axis (dim_of scene name) axis), Dim) ∷ []
+
 -- what refuses an edit of an input by a box
 abbrev pub box_causes : Scene → List ℕ → List ℤ → List (Bool × Code)
 box_causes scene name nums =
@@ -86,19 +99,6 @@ def_causes scene name formula =
     ∷ (not (formula_in_range scene formula), Range)
     ∷ []
 
--- what refuses an edit, in order
-abbrev pub edit_causes : Scene → Edit → List (Bool × Code)
-edit_causes scene (Input name dim) = (stands scene name, Taken) ∷ (not (is_dim dim), Dim) ∷ []
-edit_causes scene (Toggle name nums) = box_causes scene name nums
-edit_causes scene (Add name nums) = box_causes scene name nums
-edit_causes scene (Cut name nums) = box_causes scene name nums
-edit_causes scene (Def name formula) = def_causes scene name formula
-edit_causes scene (Drop name) = (not (stands scene name), Name) ∷ (is_read scene name, Used) ∷ []
-
--- the code that refuses an edit, or none
-abbrev pub refusal : Scene → Edit → Option Code
-refusal scene edit = first_cause (edit_causes scene edit)
-
 -- the scene with an input's figure and a box put together
 abbrev pub with_box : (Figure → Figure → Figure) → Scene → List ℕ → List ℤ → Scene
 with_box op scene name nums = with_figure scene name (op (value scene name) (box_at (dim_of scene name) nums))
@@ -111,6 +111,23 @@ after scene (Add name nums) = with_box or_of scene name nums
 after scene (Cut name nums) = with_box sub_of scene name nums
 after scene (Def name formula) = with_formula scene name formula
 after scene (Drop name) = without_name scene name
+
+-- what refuses an edit by the scene that it would leave: some formula would move a cell out of the limits
+abbrev pub value_causes : Scene → List (Bool × Code)
+value_causes left = (not (all_stay left), Range) ∷ []
+
+-- what refuses an edit, in order
+abbrev pub edit_causes : Scene → Edit → List (Bool × Code)
+edit_causes scene (Input name dim) = (stands scene name, Taken) ∷ (not (is_dim dim), Dim) ∷ []
+edit_causes scene (Toggle name nums) = box_causes scene name nums ++ value_causes (after scene (Toggle name nums))
+edit_causes scene (Add name nums) = box_causes scene name nums ++ value_causes (after scene (Add name nums))
+edit_causes scene (Cut name nums) = box_causes scene name nums ++ value_causes (after scene (Cut name nums))
+edit_causes scene (Def name formula) = def_causes scene name formula ++ value_causes (after scene (Def name formula))
+edit_causes scene (Drop name) = (not (stands scene name), Name) ∷ (is_read scene name, Used) ∷ []
+
+-- the code that refuses an edit, or none
+abbrev pub refusal : Scene → Edit → Option Code
+refusal scene edit = first_cause (edit_causes scene edit)
 
 -- how many names stand before and after with different values
 abbrev pub changed_names : Scene → Scene → ℕ

@@ -1,10 +1,12 @@
 -- Figures: the solids of a scene, each a cell set with its dimension.
-use Rattle.std.specs.Prelude.{ℕ, ◌==◌, Bool, ◌&&◌, if◌then◌else◌, ℤ, List, [], length, take, drop}
+use Rattle.std.specs.Prelude.{ℕ, ◌+◌, ◌-◌, ◌==◌, Bool, ◌&&◌, if◌then◌else◌, ℤ, List, [], length, take, drop}
 use Rattle.std.specs.List.{list_all}
 use Rattle.evm_cells.specs.Places.{has}
 use Rattle.evm_cells.specs.Booleans.{or_cells, and_cells, sub_cells, xor_cells}
 use Rattle.evm_cells.specs.Vertices.{evm}
 use Rattle.evm_cells.specs.Boxes.{box_cells, is_box}
+use Rattle.evm_cells.specs.Sections.{slice}
+use Rattle.evm_cells.specs.Shapes.{shift, shift_fits, mirror, swap_axes, clip, proj, lift}
 use Rattle.evm_cells.specs.Measures.{content, boundary, is_inside, is_outside}
 
 -- a dimension, and cells of it in ascending order
@@ -51,6 +53,38 @@ and_of a b = record { dim = a.dim; cells = and_cells a.dim a.cells b.cells }
 -- the cells of the first that are not of the second
 unfoldable pub sub_of : Figure → Figure → Figure
 sub_of a b = record { dim = a.dim; cells = sub_cells a.dim a.cells b.cells }
+
+-- each cell moved by these numbers, one an axis; a place that is no cell is left out
+unfoldable pub shift_of : List ℤ → Figure → Figure
+shift_of by a = record { dim = a.dim; cells = shift a.dim by a.cells }
+
+-- each moved cell is a cell
+unfoldable pub shift_stays : List ℤ → Figure → Bool
+shift_stays by a = shift_fits a.dim by a.cells
+
+-- the mirror image across an axis; here and below axes are counted from 1
+unfoldable pub mirror_of : ℕ → Figure → Figure
+mirror_of axis a = record { dim = a.dim; cells = mirror a.dim (axis - 1) a.cells }
+
+-- with two axes exchanged
+unfoldable pub swap_of : ℕ → ℕ → Figure → Figure
+swap_of i j a = record { dim = a.dim; cells = swap_axes a.dim (i - 1) (j - 1) a.cells }
+
+-- the cells in the box between the corners that the numbers state
+unfoldable pub clip_of : List ℤ → Figure → Figure
+clip_of nums a = record { dim = a.dim; cells = clip a.dim (low_of a.dim nums) (high_of a.dim nums) a.cells }
+
+-- the cells at a height on an axis, without that coordinate
+unfoldable pub slice_of : ℕ → ℤ → Figure → Figure
+slice_of axis at a = record { dim = a.dim - 1; cells = slice (a.dim - 1) (axis - 1) at a.cells }
+
+-- the cells without their coordinate on an axis
+unfoldable pub proj_of : ℕ → Figure → Figure
+proj_of axis a = record { dim = a.dim - 1; cells = proj (a.dim - 1) (axis - 1) a.cells }
+
+-- the cells with each height from lo up to, but not at, hi put in at an axis
+unfoldable pub lift_of : ℕ → ℤ → ℤ → Figure → Figure
+lift_of axis lo hi a = record { dim = a.dim + 1; cells = lift (a.dim + 1) (axis - 1) lo hi a.cells }
 
 -- the extreme vertices, ascending
 unfoldable pub vertices_in : Figure → List (List ℤ)

@@ -1,11 +1,16 @@
 -- Laws of figures, scenes, edits, replies, steps and runs.
-use Rattle.std.specs.Prelude.{ℕ, ◌≡◌, ◌≢◌, ◌↔◌, ◌≤◌, ◌⊎◌, true, false, not, ◌||◌, nat_eq, nat_abs, ℤ, List, [], ◌∷◌, ◌++◌, length, take, flat_map, codes, None, bytes_eq, count_by, if◌then◌else◌}
+use Rattle.std.specs.Prelude.{ℕ, ◌≡◌, ◌≢◌, ◌↔◌, ◌≤◌, ◌⊎◌, Bool, true, false, not, ◌||◌, nat_eq, nat_abs, ℤ, List, [], ◌∷◌, ◌++◌, length, take, map, flat_map, codes, Some, None, Ok, bytes_eq, count_by, if◌then◌else◌}
 use Rattle.std.specs.List.{list_any, list_all, starts_with}
 use Rattle.evm_cells.specs.Limits.{IsCellSet}
+use Rattle.evm_cells.specs.Shapes.{added}
+use Rattle.evm_script.specs.Line.{command}
+use Rattle.evm_script.specs.declared.command.Command.{Command}
+use Rattle.evm_script.specs.declared.command.Command.TheVariants as commands
 use Rattle.evm_script.specs.declared.formula.Formula.{Formula}
+use Rattle.evm_script.specs.declared.formula.Formula.TheVariants.{Shift}
 use Rattle.evm_model.specs.Figures.{Figure, nothing, box_at, xor_of, or_of, sub_of, same_figure}
 use Rattle.evm_model.specs.Orders.{is_among}
-use Rattle.evm_model.specs.Scene.{Scene, Entry, start, entry_of, stands, dim_of, operands_of, formula_value, entry_value, value, reaches, is_read, with_figure, IsWell}
+use Rattle.evm_model.specs.Scene.{Scene, Entry, Made, start, entry_of, stands, dim_of, operands_of, formula_value, entry_value, value, reaches, is_read, all_stay, with_figure, IsWell}
 use Rattle.evm_model.specs.Edits.{Edit, Input, Toggle, Add, Cut, Def, Drop, Memory, name_of, refusal, after, changed, changed_names}
 use Rattle.evm_model.specs.Replies.{Reply, No, reply_text, line_of, is_no}
 use Rattle.evm_model.specs.Steps.{step}
@@ -26,6 +31,32 @@ RepliesAreLines = (reply : Reply) → (reply_text reply ≡ []) ⊎ ((front : Li
 -- a refused line leaves the scene
 abbrev pub RefusalChangesNothing : Type 0
 RefusalChangesNothing = (scene : Scene) (line : List ℕ) → is_no (step scene line).reply ≡ true → (step scene line).scene ≡ scene
+
+-- a command that edits the scene
+abbrev pub is_edit : Command → Bool
+is_edit commands.Blank = false
+is_edit (commands.Input name dim) = true
+is_edit (commands.Toggle name nums) = true
+is_edit (commands.Add name nums) = true
+is_edit (commands.Cut name nums) = true
+is_edit (commands.Def name formula) = true
+is_edit (commands.Drop name) = true
+is_edit (commands.Show name) = false
+is_edit (commands.Section name axis at) = false
+is_edit (commands.Project name axis) = false
+is_edit (commands.Content name) = false
+is_edit (commands.Boundary name) = false
+is_edit (commands.At name nums) = false
+is_edit (commands.Point name nums) = false
+is_edit commands.List = false
+
+-- a line that is no edit leaves the scene
+abbrev pub QuestionsLeaveScene : Type 0
+QuestionsLeaveScene = (scene : Scene) (line : List ℕ) (c : Command) → command line ≡ Ok c → is_edit c ≡ false → (step scene line).scene ≡ scene
+
+-- an edit after which a formula would move a cell out of the limits is refused
+abbrev pub OutOfLimitsIsRefused : Type 0
+OutOfLimitsIsRefused = (scene : Scene) (edit : Edit) → IsWell scene → all_stay (after scene edit) ≡ false → refusal scene edit ≢ None
 
 -- a step never lacks memory: that comes by a mark alone
 abbrev pub StepHasMemory : Type 0
@@ -57,6 +88,12 @@ ReachingFollowsFormulas = (scene : Scene) (name other : List ℕ) → IsWell sce
 -- no name reaches itself
 abbrev pub NoneReachesItself : Type 0
 NoneReachesItself = (scene : Scene) (name : List ℕ) → IsWell scene → reaches scene name name ≡ false
+
+-- the value of a shift has each cell of its operand, moved, and no other: none is lost at the limits
+abbrev pub ShiftsMoveAllCells : Type 0
+ShiftsMoveAllCells = (scene : Scene) (name operand : List ℕ) (nums : List ℤ) (e : Entry) → IsWell scene
+    → entry_of scene.entries name ≡ Some e → e.what ≡ Made (Shift operand nums)
+    → (value scene name).cells ≡ map (added nums) (value scene operand).cells
 
 -- what a name reads stands
 abbrev pub OperandsStand : Type 0

@@ -1,11 +1,12 @@
 -- A scene: names in the order of their making, each with a dimension and what it stands for.
-use Rattle.std.specs.Prelude.{ℕ, zero, suc, ◌≡◌, ◌*◌, ◌==◌, Bool, true, false, not, ◌&&◌, ◌||◌, if◌then◌else◌, ℤ, pos, nat_abs, int_le, List, [], ◌∷◌, ◌++◌, length, Option, None, Some, find, is_some, bytes_eq}
+use Rattle.std.specs.Prelude.{ℕ, zero, suc, ◌≡◌, ◌+◌, ◌-◌, ◌*◌, ◌==◌, Bool, true, false, not, ◌&&◌, ◌||◌, if◌then◌else◌, ℤ, pos, nat_abs, int_le, int_lt, List, [], ◌∷◌, ◌++◌, length, Option, None, Some, find, is_some, bytes_eq}
 use Rattle.std.specs.List.{list_any, list_all}
 use Rattle.evm_cells.specs.Places.{ascending}
-use Rattle.evm_cells.specs.Limits.{is_cell}
+use Rattle.evm_cells.specs.Limits.{is_cell, is_cell_coord, is_point_coord}
+use Rattle.evm_cells.specs.Shapes.{is_shift}
 use Rattle.evm_script.specs.declared.formula.Formula.{Formula}
-use Rattle.evm_script.specs.declared.formula.Formula.TheVariants.{Or, And, Sub, Xor, Box}
-use Rattle.evm_model.specs.Figures.{Figure, nothing, box_at, box_fits, low_of, high_of, or_of, and_of, sub_of, xor_of}
+use Rattle.evm_script.specs.declared.formula.Formula.TheVariants.{Or, And, Sub, Xor, Box, Shift, Mirror, Swap, Clip, Slice, Proj, Lift}
+use Rattle.evm_model.specs.Figures.{Figure, nothing, box_at, box_fits, low_of, high_of, or_of, and_of, sub_of, xor_of, shift_of, shift_stays, mirror_of, swap_of, clip_of, slice_of, proj_of, lift_of}
 use Rattle.evm_model.specs.Orders.{is_among, Ordered}
 
 -- what a name stands for: the cells of an input, or a formula
@@ -68,6 +69,13 @@ operands (And a b) = a ∷ b ∷ []
 operands (Sub a b) = a ∷ b ∷ []
 operands (Xor a b) = a ∷ b ∷ []
 operands (Box dim nums) = []
+operands (Shift a nums) = a ∷ []
+operands (Mirror a axis) = a ∷ []
+operands (Swap a i j) = a ∷ []
+operands (Clip a nums) = a ∷ []
+operands (Slice a axis at) = a ∷ []
+operands (Proj a axis) = a ∷ []
+operands (Lift a axis lo hi) = a ∷ []
 
 -- the names that an entry reads; an input reads none
 abbrev pub what_operands : What → List (List ℕ)
@@ -89,6 +97,28 @@ formula_value (And a b) at = and_of (at a) (at b)
 formula_value (Sub a b) at = sub_of (at a) (at b)
 formula_value (Xor a b) at = xor_of (at a) (at b)
 formula_value (Box dim nums) at = box_at (nat_abs dim) nums
+formula_value (Shift a nums) at = shift_of nums (at a)
+formula_value (Mirror a axis) at = mirror_of (nat_abs axis) (at a)
+formula_value (Swap a i j) at = swap_of (nat_abs i) (nat_abs j) (at a)
+formula_value (Clip a nums) at = clip_of nums (at a)
+formula_value (Slice a axis height) at = slice_of (nat_abs axis) height (at a)
+formula_value (Proj a axis) at = proj_of (nat_abs axis) (at a)
+formula_value (Lift a axis lo hi) at = lift_of (nat_abs axis) lo hi (at a)
+
+-- whether a formula moves no cell of its operand's value to a place that is no cell; a shift alone can
+abbrev pub formula_stays : Formula → (List ℕ → Figure) → Bool
+formula_stays (Or a b) at = true
+formula_stays (And a b) at = true
+formula_stays (Sub a b) at = true
+formula_stays (Xor a b) at = true
+formula_stays (Box dim nums) at = true
+formula_stays (Shift a nums) at = shift_stays nums (at a)
+formula_stays (Mirror a axis) at = true
+formula_stays (Swap a i j) at = true
+formula_stays (Clip a nums) at = true
+formula_stays (Slice a axis height) at = true
+formula_stays (Proj a axis) at = true
+formula_stays (Lift a axis lo hi) at = true
 
 -- the value of what a name stands for, at the values of its operands
 abbrev pub what_value : ℕ → What → (List ℕ → Figure) → Figure
@@ -109,6 +139,15 @@ value_within (suc n) entries name = entry_value (entry_of entries name) (λ o. v
 -- no name has more levels of operands than there are entries
 abbrev pub value : Scene → List ℕ → Figure
 value scene name = value_within (length scene.entries) scene.entries name
+
+-- whether what a name stands for moves no cell out of the limits
+abbrev pub what_stays : What → (List ℕ → Figure) → Bool
+what_stays (Given cells) at = true
+what_stays (Made formula) at = formula_stays formula at
+
+-- whether no formula of a scene moves a cell out of the limits
+abbrev pub all_stay : Scene → Bool
+all_stay scene = list_all (λ (e : Entry). what_stays e.what (value scene)) scene.entries
 
 -- whether a name reads another, or reads one that reaches it, through so many levels of operands
 abbrev pub reaches_within : ℕ → List Entry → List ℕ → List ℕ → Bool
@@ -148,6 +187,13 @@ formula_dim scene (And a b) = dim_of scene a
 formula_dim scene (Sub a b) = dim_of scene a
 formula_dim scene (Xor a b) = dim_of scene a
 formula_dim scene (Box dim nums) = nat_abs dim
+formula_dim scene (Shift a nums) = dim_of scene a
+formula_dim scene (Mirror a axis) = dim_of scene a
+formula_dim scene (Swap a i j) = dim_of scene a
+formula_dim scene (Clip a nums) = dim_of scene a
+formula_dim scene (Slice a axis at) = dim_of scene a - 1
+formula_dim scene (Proj a axis) = dim_of scene a - 1
+formula_dim scene (Lift a axis lo hi) = dim_of scene a + 1
 
 -- the scene with this formula under a name: in the name's place, or at the end where the name does not stand
 abbrev pub with_formula : Scene → List ℕ → Formula → Scene
@@ -164,13 +210,29 @@ without_name scene name = record scene { entries = without_entry scene.entries n
 abbrev pub is_dim : ℤ → Bool
 is_dim n = int_le (pos 2) n && int_le n (pos 6)
 
--- the operands have one dimension, or a box states a dimension and twice as many numbers
+-- an axis of a solid of this dimension
+abbrev pub is_axis : ℕ → ℤ → Bool
+is_axis n axis = int_le (pos 1) axis && int_le axis (pos n)
+
+-- the operands have one dimension; a box states a dimension and twice as many numbers; and the shapes state numbers and axes
+-- that the operand's dimension allows, and make no solid of dimension 1 or 7
 abbrev pub formula_fits : Scene → Formula → Bool
 formula_fits scene (Or a b) = dim_of scene a == dim_of scene b
 formula_fits scene (And a b) = dim_of scene a == dim_of scene b
 formula_fits scene (Sub a b) = dim_of scene a == dim_of scene b
 formula_fits scene (Xor a b) = dim_of scene a == dim_of scene b
 formula_fits scene (Box dim nums) = is_dim dim && length nums == 2 * nat_abs dim
+formula_fits scene (Shift a nums) = length nums == dim_of scene a
+formula_fits scene (Mirror a axis) = is_axis (dim_of scene a) axis
+formula_fits scene (Swap a i j) = is_axis (dim_of scene a) i && is_axis (dim_of scene a) j
+formula_fits scene (Clip a nums) = length nums == 2 * dim_of scene a
+formula_fits scene (Slice a axis at) = not (dim_of scene a == 2) && is_axis (dim_of scene a) axis
+formula_fits scene (Proj a axis) = not (dim_of scene a == 2) && is_axis (dim_of scene a) axis
+formula_fits scene (Lift a axis lo hi) = not (dim_of scene a == 6) && is_axis (dim_of scene a + 1) axis
+
+-- heights that a prism can run between
+abbrev pub is_range : ℕ → ℤ → ℤ → Bool
+is_range n lo hi = is_point_coord n lo && is_point_coord n hi && int_lt lo hi
 
 -- the numbers that a formula states are in their limits
 abbrev pub formula_in_range : Scene → Formula → Bool
@@ -179,6 +241,13 @@ formula_in_range scene (And a b) = true
 formula_in_range scene (Sub a b) = true
 formula_in_range scene (Xor a b) = true
 formula_in_range scene (Box dim nums) = box_fits (low_of (nat_abs dim) nums) (high_of (nat_abs dim) nums)
+formula_in_range scene (Shift a nums) = is_shift (dim_of scene a) nums
+formula_in_range scene (Mirror a axis) = true
+formula_in_range scene (Swap a i j) = true
+formula_in_range scene (Clip a nums) = box_fits (low_of (dim_of scene a) nums) (high_of (dim_of scene a) nums)
+formula_in_range scene (Slice a axis at) = is_cell_coord (dim_of scene a) at
+formula_in_range scene (Proj a axis) = true
+formula_in_range scene (Lift a axis lo hi) = is_range (dim_of scene a + 1) lo hi
 
 -- no name stands twice
 abbrev pub names_differ : List Entry → Bool
@@ -190,12 +259,13 @@ abbrev pub what_is_sound : Scene → ℕ → What → Bool
 what_is_sound scene dim (Given cells) = ascending cells && list_all (is_cell dim) cells
 what_is_sound scene dim (Made formula) = formula_fits scene formula && formula_in_range scene formula && formula_dim scene formula == dim
 
--- what each scene of a run keeps: names differ, dimensions are those that named solids have, each entry is sound, and the
--- names can be put in an order in which the operands of each come before it, so that operands stand and none reaches itself
+-- what each scene of a run keeps: names differ, dimensions are those that named solids have, each entry is sound, no formula
+-- moves a cell out of the limits, and the names can be put in an order in which the operands of each come before it, so that operands stand and none reaches itself
 pub record IsWell (scene : Scene) : Type 0 where
   pub names : names_differ scene.entries ≡ true
   pub dims : list_all (λ (e : Entry). is_dim (pos e.dim)) scene.entries ≡ true
   pub sound : list_all (λ (e : Entry). what_is_sound scene e.dim e.what) scene.entries ≡ true
+  pub stay : all_stay scene ≡ true
   pub order : List (List ℕ)
   pub ordered : Ordered (operands_of scene.entries) [] order
   pub whole : (x : List ℕ) → is_among x order ≡ stands scene x

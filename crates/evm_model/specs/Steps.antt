@@ -1,14 +1,14 @@
 -- One line: its reply, and the scene after it.
-use Rattle.std.specs.Prelude.{ℕ, Bool, List, Option, None, Some, Result, Ok, Err}
+use Rattle.std.specs.Prelude.{ℕ, nat_abs, Bool, List, Option, None, Some, Result, Ok, Err}
 use Rattle.evm_cells.specs.Limits.{is_cell_coord, is_point_coord}
 use Rattle.evm_script.specs.Line.{command}
 use Rattle.evm_script.specs.declared.command.Command.{Command}
 use Rattle.evm_script.specs.declared.command.Command.TheVariants as commands
 use Rattle.evm_script.specs.declared.command.LineError.{LineError}
 use Rattle.evm_script.specs.declared.command.LineError.TheVariants as faults
-use Rattle.evm_model.specs.Figures.{content_of, boundary_of, fills, place_of}
+use Rattle.evm_model.specs.Figures.{content_of, boundary_of, fills, place_of, slice_of, proj_of}
 use Rattle.evm_model.specs.Scene.{Scene, value, dim_of}
-use Rattle.evm_model.specs.Edits.{Edit, Input, Toggle, Add, Cut, Def, Drop, Code, Line, Syntax, first_cause, name_causes, place_causes, refusal, after, changed}
+use Rattle.evm_model.specs.Edits.{Edit, Input, Toggle, Add, Cut, Def, Drop, Code, Line, Syntax, first_cause, name_causes, place_causes, section_causes, axis_causes, refusal, after, changed}
 use Rattle.evm_model.specs.Replies.{Reply, Empty, No, Changed, Shown, Measured, Filled, Placed, Listed}
 
 -- what a line does: its reply, and the scene after it
@@ -44,6 +44,8 @@ turn_of scene (commands.Def name formula) = edited scene (Def name formula) (Cha
 turn_of scene (commands.Drop name) = edited scene (Drop name) (Changed 0)
 turn_of scene commands.List = stays scene (Listed scene.entries)
 turn_of scene (commands.Show name) = asked (name_causes scene name) scene (Shown (value scene name))
+turn_of scene (commands.Section name axis at) = asked (section_causes scene name axis at) scene (Shown (slice_of (nat_abs axis) at (value scene name)))
+turn_of scene (commands.Project name axis) = asked (axis_causes scene name axis) scene (Shown (proj_of (nat_abs axis) (value scene name)))
 turn_of scene (commands.Content name) = asked (name_causes scene name) scene (Measured (content_of (value scene name)))
 turn_of scene (commands.Boundary name) = asked (name_causes scene name) scene (Measured (boundary_of (value scene name)))
 turn_of scene (commands.At name nums) = asked (place_causes scene name nums (is_cell_coord (dim_of scene name))) scene (Filled (fills (value scene name) nums))

@@ -8,15 +8,16 @@
 //! input, or a formula over other names, its operands. A **figure** is a cell set with its dimension. The **value** of a name is
 //! a figure: the cells of an input, or what a formula makes of the values of its operands. A name **reaches** its operands and
 //! what they reach. A scene is **well** where names differ, dimensions are 2 to 6, each input is a cell set, each formula fits
-//! its operands, and the names can be put in an order in which operands come first. A **step** is what one line does: its
-//! reply, and the scene after it. A **run** takes the lines of a script in order, each with a mark that says whether it was
-//! answered or memory was missing.
+//! its operands, no shift moves a cell out of the limits, and the names can be put in an order in which operands come first.
+//! A **step** is what one line does: its reply, and the scene after it. A **run** takes the lines of a script in order, each
+//! with a mark that says whether it was answered or memory was missing.
 #![tactic(auto)]
 
 ghost use Rattle.evm_model.specs.Laws.{SameIsEqual, RefusalsBeginWithNo, RepliesAreLines};
-ghost use Rattle.evm_model.specs.Laws.{RefusalChangesNothing, StepHasMemory, StartIsWell, StepsKeepWell};
+ghost use Rattle.evm_model.specs.Laws.{RefusalChangesNothing, QuestionsLeaveScene, OutOfLimitsIsRefused};
+ghost use Rattle.evm_model.specs.Laws.{StepHasMemory, StartIsWell, StepsKeepWell};
 ghost use Rattle.evm_model.specs.Laws.{ValuesFollowFormulas, FormulasDetermineValues, ReachingFollowsFormulas, NoneReachesItself};
-ghost use Rattle.evm_model.specs.Laws.{OperandsStand, DimIsOfValue, ValuesAreCellSets};
+ghost use Rattle.evm_model.specs.Laws.{ShiftsMoveAllCells, OperandsStand, DimIsOfValue, ValuesAreCellSets};
 ghost use Rattle.evm_model.specs.Laws.{OthersStay, OthersStand, InputsStartEmpty, BoxesCombine, DefinitionsHold, DropsTakeOut};
 ghost use Rattle.evm_model.specs.Laws.{ChangedReachName, NewNamesChangeNone, DropsChangeNone, OneNameChanges};
 ghost use Rattle.evm_model.specs.Laws.{SameFigureStays, ToggleChangesName, ToggleCountsName};
@@ -34,10 +35,14 @@ pub fn replies_show_refusals()
 /// What a line leaves.
 ///
 /// - `refused`: a refused line leaves the scene.
+/// - `questions`: a line that is no edit leaves the scene.
+/// - `limits`: an edit after which some formula would move a cell out of the limits is refused.
 /// - `memory`: no step answers want of memory.
 /// - `start`, `well`: each scene of a run is well.
 pub fn steps_keep_scenes()
     ensures refused { RefusalChangesNothing }
+    ensures questions { QuestionsLeaveScene }
+    ensures limits { OutOfLimitsIsRefused }
     ensures memory { StepHasMemory }
     ensures start { StartIsWell }
     ensures well { StepsKeepWell }
@@ -47,6 +52,7 @@ pub fn steps_keep_scenes()
 ///
 /// - `values`: the value of an input is its cells, and that of a formula is what it makes of the values of its operands.
 /// - `only`: nothing else follows the formulas, so that they determine the values.
+/// - `shifts`: a shift moves each cell of its operand, and loses none at the limits.
 /// - `reaching`: a name reaches what it reads, what that reaches, and no more.
 /// - `cycles`: no name reaches itself.
 /// - `operands`: what a name reads stands.
@@ -55,6 +61,7 @@ pub fn steps_keep_scenes()
 pub fn values_follow_formulas()
     ensures values { ValuesFollowFormulas }
     ensures only { FormulasDetermineValues }
+    ensures shifts { ShiftsMoveAllCells }
     ensures reaching { ReachingFollowsFormulas }
     ensures cycles { NoneReachesItself }
     ensures operands { OperandsStand }

@@ -5,7 +5,7 @@ use Rattle.std.specs.Option.{option_zip}
 use Rattle.std.specs.Fmt.{signed_decimal}
 use Rattle.std.specs.List.{list_all}
 use Rattle.evm_script.specs.Words.{words, is_name, in_number_range, keeps_nums, line_max}
-use Rattle.evm_script.specs.Shapes.{of_pair}
+use Rattle.evm_script.specs.Shapes.{of_pair, of_three}
 use Rattle.evm_script.specs.Formulas.{formula_of}
 use Rattle.evm_script.specs.Line.{command, command_of_words, form_of, or_syntax}
 use Rattle.evm_script.specs.Printed.{spaced, printed, formula_words, FormulaKeepsRules, KeepsRules, IsReadAgain}
@@ -14,8 +14,7 @@ use Rattle.evm_script.specs.declared.command.Command.TheVariants as commands
 use Rattle.evm_script.specs.declared.command.LineError.TheVariants.{Long}
 use Rattle.evm_script.specs.declared.formula.Formula.{Formula}
 use Rattle.evm_script.proofs.Spaced.{is_plain, words_spaced, no_cr_spaced, short_spaced}
-use Rattle.evm_script.proofs.Decimals.{plain_number}
-use Rattle.evm_script.proofs.ShapesAgain.{plain_name, plain_more, plain_nums, few_nums, name_again, name_number_again, name_numbers_again}
+use Rattle.evm_script.proofs.ShapesAgain.{named_plain, one_plain, two_plain, plain_nums, few_nums, name_again, name_number_again, name_two_again, name_numbers_again}
 use Rattle.evm_script.proofs.FormulasAgain.{words_of_formula}
 
 -- a line of plain words is the command of these words
@@ -28,7 +27,7 @@ read_spaced ws h few =
 
 -- the same of a first word, a name and further words
 read_named : (first name : List ℕ) (ws : List (List ℕ)) → is_plain first ≡ true → is_name name ≡ true → list_all is_plain ws ≡ true → length ws ≤ 18 → command (spaced (first ∷ name ∷ ws)) ≡ command_of_words (first ∷ name ∷ ws)
-read_named first name ws p h k few = read_spaced (first ∷ name ∷ ws) (plain_more first (name ∷ ws) p (plain_more name ws (plain_name name h) k)) (omega arith)
+read_named first name ws p h k few = read_spaced (first ∷ name ∷ ws) (named_plain first name ws p h k) (omega arith)
 
 -- a first word and a name
 with_name : (first name : List ℕ) → is_plain first ≡ true → is_name name ≡ true → command (spaced (first ∷ name ∷ [])) ≡ command_of_words (first ∷ name ∷ [])
@@ -36,7 +35,7 @@ with_name first name p h = read_named first name [] p h refl (omega arith)
 
 -- a first word, a name and a number
 with_number : (first name : List ℕ) (n : ℤ) → is_plain first ≡ true → is_name name ≡ true → in_number_range n ≡ true → command (spaced (first ∷ name ∷ signed_decimal n ∷ [])) ≡ command_of_words (first ∷ name ∷ signed_decimal n ∷ [])
-with_number first name n p h k = read_named first name (signed_decimal n ∷ []) p h (plain_more (signed_decimal n) [] (plain_number n k) refl) (omega arith)
+with_number first name n p h k = read_named first name (signed_decimal n ∷ []) p h (one_plain n k) (omega arith)
 
 -- a first word, a name and a list of numbers
 with_numbers : (first name : List ℕ) (ns : List ℤ) → is_plain first ≡ true → is_name name ≡ true → keeps_nums ns ≡ true → command (spaced (first ∷ name ∷ map signed_decimal ns)) ≡ command_of_words (first ∷ name ∷ map signed_decimal ns)
@@ -82,6 +81,13 @@ read_again (commands.At name nums) h =
 read_again (commands.Point name nums) h =
     with_numbers (codes "point") name nums refl h.0 h.1
     ∙ ap (λ (o : Option (List ℕ × List ℤ)). or_syntax (option_map (of_pair commands.Point) o)) (name_numbers_again name nums h.0 h.1)
+read_again (commands.Section name axis at) h =
+    read_named (codes "section") name (signed_decimal axis ∷ signed_decimal at ∷ []) refl h.0
+    (two_plain axis at h.1 h.2) (omega arith)
+    ∙ ap (λ (o : Option (List ℕ × (ℤ × ℤ))). or_syntax (option_map (of_three commands.Section) o)) (name_two_again name axis at h.0 h.1 h.2)
+read_again (commands.Project name axis) h =
+    with_number (codes "project") name axis refl h.0 h.1
+    ∙ ap (λ (o : Option (List ℕ × ℤ)). or_syntax (option_map (of_pair commands.Project) o)) (name_number_again name axis h.0 h.1)
 read_again commands.List h = read_spaced (codes "list" ∷ []) refl (omega arith)
 
 -- commands with one text are one command

@@ -8,9 +8,9 @@ use Rattle.std.specs.List.{list_all}
 use Rattle.std.proofs.lemmas.Bool.{and_parts, and_from, leb-true, le-leb}
 use Rattle.std.proofs.lemmas.Bool.Decides.{nat_tests}
 use Rattle.evm_script.specs.Words.{is_name, is_name_byte, is_small_letter, in_number_range, keeps_nums, nums_max, name_max}
-use Rattle.evm_script.specs.Shapes.{name_of, name_number, name_numbers, two_names, number_numbers, numbers, some_numbers}
+use Rattle.evm_script.specs.Shapes.{name_of, name_number, name_two_numbers, name_three_numbers, name_numbers, two_names, two_numbers, three_numbers, number_numbers, numbers, some_numbers}
 use Rattle.evm_script.proofs.Spaced.{is_plain}
-use Rattle.evm_script.proofs.Decimals.{number_again, numbers_again, plain_numbers}
+use Rattle.evm_script.proofs.Decimals.{number_again, numbers_again, plain_number, plain_numbers}
 
 -- names are plain words
 name_bytes_plain : (w : List ℕ) → list_all is_name_byte w ≡ true → list_all (nat_lt 32) w ≡ true
@@ -31,6 +31,17 @@ plain_name w h =
 -- plain words in front of plain words
 pub plain_more : (w : List ℕ) (ws : List (List ℕ)) → is_plain w ≡ true → list_all is_plain ws ≡ true → list_all is_plain (w ∷ ws) ≡ true
 plain_more w ws h k = and_from (is_plain w) _ h k
+
+-- a first word, a name and plain words
+pub named_plain : (first a : List ℕ) (ws : List (List ℕ)) → is_plain first ≡ true → is_name a ≡ true → list_all is_plain ws ≡ true → list_all is_plain (first ∷ a ∷ ws) ≡ true
+named_plain first a ws p h k = plain_more first (a ∷ ws) p (plain_more a ws (plain_name a h) k)
+
+-- numbers, each a plain word
+pub one_plain : (n : ℤ) → in_number_range n ≡ true → list_all is_plain (signed_decimal n ∷ []) ≡ true
+one_plain n h = plain_more (signed_decimal n) [] (plain_number n h) refl
+
+pub two_plain : (m n : ℤ) → in_number_range m ≡ true → in_number_range n ≡ true → list_all is_plain (signed_decimal m ∷ signed_decimal n ∷ []) ≡ true
+two_plain m n h k = plain_more (signed_decimal m) (signed_decimal n ∷ []) (plain_number m h) (one_plain n k)
 
 -- numbers are plain words, and few
 nums_parts : (ns : List ℤ) → keeps_nums ns ≡ true → ((nat_le 1 (length ns) && nat_le (length ns) nums_max) ≡ true) × (list_all in_number_range ns ≡ true)
@@ -56,6 +67,18 @@ zip_again {p} a b h k = ap (λ o. option_zip o p) h ∙ ap (option_zip (Some a))
 
 pub name_number_again : (name : List ℕ) (n : ℤ) → is_name name ≡ true → in_number_range n ≡ true → name_number (name ∷ signed_decimal n ∷ []) ≡ Some (name, n)
 name_number_again name n h k = zip_again name n (name_again name h) (number_again n k)
+
+two_numbers_again : (m n : ℤ) → in_number_range m ≡ true → in_number_range n ≡ true → two_numbers (signed_decimal m ∷ signed_decimal n ∷ []) ≡ Some (m, n)
+two_numbers_again m n h k = zip_again m n (number_again m h) (number_again n k)
+
+three_numbers_again : (k m n : ℤ) → in_number_range k ≡ true → in_number_range m ≡ true → in_number_range n ≡ true → three_numbers (signed_decimal k ∷ signed_decimal m ∷ signed_decimal n ∷ []) ≡ Some (k, (m, n))
+three_numbers_again k m n g h i = zip_again k (m, n) (number_again k g) (two_numbers_again m n h i)
+
+pub name_two_again : (name : List ℕ) (m n : ℤ) → is_name name ≡ true → in_number_range m ≡ true → in_number_range n ≡ true → name_two_numbers (name ∷ signed_decimal m ∷ signed_decimal n ∷ []) ≡ Some (name, (m, n))
+name_two_again name m n g h k = zip_again name (m, n) (name_again name g) (two_numbers_again m n h k)
+
+pub name_three_again : (name : List ℕ) (k m n : ℤ) → is_name name ≡ true → in_number_range k ≡ true → in_number_range m ≡ true → in_number_range n ≡ true → name_three_numbers (name ∷ signed_decimal k ∷ signed_decimal m ∷ signed_decimal n ∷ []) ≡ Some (name, (k, (m, n)))
+name_three_again name k m n f g h i = zip_again name (k, (m, n)) (name_again name f) (three_numbers_again k m n g h i)
 
 pub name_numbers_again : (name : List ℕ) (ns : List ℤ) → is_name name ≡ true → keeps_nums ns ≡ true → name_numbers (name ∷ map signed_decimal ns) ≡ Some (name, ns)
 name_numbers_again name ns h k = zip_again name ns (name_again name h) (some_again ns k)

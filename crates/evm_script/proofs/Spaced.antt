@@ -39,6 +39,13 @@ spaced_formula w (formulas.And a b) = refl
 spaced_formula w (formulas.Sub a b) = refl
 spaced_formula w (formulas.Xor a b) = refl
 spaced_formula w (formulas.Box dim nums) = refl
+spaced_formula w (formulas.Shift a nums) = refl
+spaced_formula w (formulas.Mirror a axis) = refl
+spaced_formula w (formulas.Swap a i j) = refl
+spaced_formula w (formulas.Clip a nums) = refl
+spaced_formula w (formulas.Slice a axis at) = refl
+spaced_formula w (formulas.Proj a axis) = refl
+spaced_formula w (formulas.Lift a axis lo hi) = refl
 
 -- a word without blanks and control bytes, of 1 to 64 bytes
 abbrev pub is_plain : List ℕ → Bool

@@ -21,6 +21,13 @@ formula_words (formulas.And a b) = codes "and" ∷ a ∷ b ∷ []
 formula_words (formulas.Sub a b) = codes "sub" ∷ a ∷ b ∷ []
 formula_words (formulas.Xor a b) = codes "xor" ∷ a ∷ b ∷ []
 formula_words (formulas.Box dim nums) = codes "box" ∷ signed_decimal dim ∷ map signed_decimal nums
+formula_words (formulas.Shift a nums) = codes "shift" ∷ a ∷ map signed_decimal nums
+formula_words (formulas.Mirror a axis) = codes "mirror" ∷ a ∷ signed_decimal axis ∷ []
+formula_words (formulas.Swap a i j) = codes "swap" ∷ a ∷ signed_decimal i ∷ signed_decimal j ∷ []
+formula_words (formulas.Clip a nums) = codes "clip" ∷ a ∷ map signed_decimal nums
+formula_words (formulas.Slice a axis at) = codes "slice" ∷ a ∷ signed_decimal axis ∷ signed_decimal at ∷ []
+formula_words (formulas.Proj a axis) = codes "proj" ∷ a ∷ signed_decimal axis ∷ []
+formula_words (formulas.Lift a axis lo hi) = codes "lift" ∷ a ∷ signed_decimal axis ∷ signed_decimal lo ∷ signed_decimal hi ∷ []
 
 -- the words of a command, each number in plain decimal
 abbrev pub command_words : Command → List (List ℕ)
@@ -36,6 +43,8 @@ command_words (commands.Content name) = codes "content" ∷ name ∷ []
 command_words (commands.Boundary name) = codes "boundary" ∷ name ∷ []
 command_words (commands.At name nums) = codes "at" ∷ name ∷ map signed_decimal nums
 command_words (commands.Point name nums) = codes "point" ∷ name ∷ map signed_decimal nums
+command_words (commands.Section name axis at) = codes "section" ∷ name ∷ signed_decimal axis ∷ signed_decimal at ∷ []
+command_words (commands.Project name axis) = codes "project" ∷ name ∷ signed_decimal axis ∷ []
 command_words commands.List = codes "list" ∷ []
 
 -- the text of a command, without a line feed
@@ -49,6 +58,14 @@ FormulaKeepsRules (formulas.And a b) = (is_name a ≡ true) × (is_name b ≡ tr
 FormulaKeepsRules (formulas.Sub a b) = (is_name a ≡ true) × (is_name b ≡ true)
 FormulaKeepsRules (formulas.Xor a b) = (is_name a ≡ true) × (is_name b ≡ true)
 FormulaKeepsRules (formulas.Box dim nums) = (in_number_range dim ≡ true) × (keeps_nums nums ≡ true)
+FormulaKeepsRules (formulas.Shift a nums) = (is_name a ≡ true) × (keeps_nums nums ≡ true)
+FormulaKeepsRules (formulas.Mirror a axis) = (is_name a ≡ true) × (in_number_range axis ≡ true)
+FormulaKeepsRules (formulas.Swap a i j) = (is_name a ≡ true) × (in_number_range i ≡ true) × (in_number_range j ≡ true)
+FormulaKeepsRules (formulas.Clip a nums) = (is_name a ≡ true) × (keeps_nums nums ≡ true)
+FormulaKeepsRules (formulas.Slice a axis at) = (is_name a ≡ true) × (in_number_range axis ≡ true) × (in_number_range at ≡ true)
+FormulaKeepsRules (formulas.Proj a axis) = (is_name a ≡ true) × (in_number_range axis ≡ true)
+FormulaKeepsRules (formulas.Lift a axis lo hi) =
+    (is_name a ≡ true) × (in_number_range axis ≡ true) × (in_number_range lo ≡ true) × (in_number_range hi ≡ true)
 
 -- a command whose names and numbers keep their rules
 abbrev pub KeepsRules : Command → Type 0
@@ -64,6 +81,8 @@ KeepsRules (commands.Content name) = is_name name ≡ true
 KeepsRules (commands.Boundary name) = is_name name ≡ true
 KeepsRules (commands.At name nums) = (is_name name ≡ true) × (keeps_nums nums ≡ true)
 KeepsRules (commands.Point name nums) = (is_name name ≡ true) × (keeps_nums nums ≡ true)
+KeepsRules (commands.Section name axis at) = (is_name name ≡ true) × (in_number_range axis ≡ true) × (in_number_range at ≡ true)
+KeepsRules (commands.Project name axis) = (is_name name ≡ true) × (in_number_range axis ≡ true)
 KeepsRules commands.List = Unit {0}
 
 -- a command's text is a line that is read as this command

@@ -38,12 +38,34 @@ name_alone [] = None
 name_alone (name ∷ []) = name_of name
 name_alone (name ∷ word ∷ rest) = None
 
+-- the shape `M N`
+abbrev pub two_numbers : List (List ℕ) → Option (ℤ × ℤ)
+two_numbers [] = None
+two_numbers (m ∷ []) = None
+two_numbers (m ∷ n ∷ []) = option_zip (number m) (number n)
+two_numbers (m ∷ n ∷ word ∷ rest) = None
+
+-- the shape `K M N`
+abbrev pub three_numbers : List (List ℕ) → Option (ℤ × (ℤ × ℤ))
+three_numbers [] = None
+three_numbers (k ∷ rest) = option_zip (number k) (two_numbers rest)
+
 -- the shape `NAME N`
 abbrev pub name_number : List (List ℕ) → Option (List ℕ × ℤ)
 name_number [] = None
 name_number (name ∷ []) = None
 name_number (name ∷ n ∷ []) = option_zip (name_of name) (number n)
 name_number (name ∷ n ∷ word ∷ rest) = None
+
+-- the shape `NAME M N`
+abbrev pub name_two_numbers : List (List ℕ) → Option (List ℕ × (ℤ × ℤ))
+name_two_numbers [] = None
+name_two_numbers (name ∷ rest) = option_zip (name_of name) (two_numbers rest)
+
+-- the shape `NAME K M N`
+abbrev pub name_three_numbers : List (List ℕ) → Option (List ℕ × (ℤ × (ℤ × ℤ)))
+name_three_numbers [] = None
+name_three_numbers (name ∷ rest) = option_zip (name_of name) (three_numbers rest)
 
 -- the shape `NAME NUMS`
 abbrev pub name_numbers : List (List ℕ) → Option (List ℕ × List ℤ)
@@ -62,6 +84,12 @@ abbrev pub number_numbers : List (List ℕ) → Option (ℤ × List ℤ)
 number_numbers [] = None
 number_numbers (n ∷ nums) = option_zip (number n) (some_numbers (numbers nums))
 
--- what two parts make
+-- what two, three or four parts make
 abbrev pub of_pair : {A B C : Type 0} → (A → B → C) → A × B → C
 of_pair make parts = make parts.0 parts.1
+
+abbrev pub of_three : {A B C D : Type 0} → (A → B → C → D) → A × (B × C) → D
+of_three make parts = of_pair (make parts.0) parts.1
+
+abbrev pub of_four : {A B C D E : Type 0} → (A → B → C → D → E) → A × (B × (C × D)) → E
+of_four make parts = of_three (make parts.0) parts.1

@@ -5,7 +5,10 @@ ghost use Rattle.evm_script.specs.Formulas.{formula_of, formula_by};
 
 use super::names::Name;
 use super::numbers::{Num, Nums};
-use super::shapes::{is, number_then_numbers, two_names};
+use super::shapes::{
+    is, name_then_number, name_then_numbers, name_then_three, name_then_two, number_then_numbers,
+    two_names,
+};
 
 /// A formula: how a solid is made of others, or of numbers.
 ///
@@ -14,15 +17,70 @@ use super::shapes::{is, number_then_numbers, two_names};
 #[derive(Clone, Copy, Debug, PartialEq, Eq)]
 pub enum Formula {
     /// `or A B`: the cells that are in one of the two solids or in both.
-    Or { a: Name, b: Name },
+    Or {
+        a: Name,
+        b: Name,
+    },
     /// `and A B`: the cells that are in both.
-    And { a: Name, b: Name },
+    And {
+        a: Name,
+        b: Name,
+    },
     /// `sub A B`: the cells of the first that are not in the second.
-    Sub { a: Name, b: Name },
+    Sub {
+        a: Name,
+        b: Name,
+    },
     /// `xor A B`: the cells that are in exactly one of the two.
-    Xor { a: Name, b: Name },
+    Xor {
+        a: Name,
+        b: Name,
+    },
     /// `box DIM NUMS`: the cells of a box in this many dimensions, its lower corner first.
-    Box { dim: Num, nums: Nums },
+    Box {
+        dim: Num,
+        nums: Nums,
+    },
+    /// `shift A NUMS`: the cells moved, along each axis by one of the numbers.
+    Shift {
+        a: Name,
+        nums: Nums,
+    },
+    /// `mirror A AXIS`: the cells mirrored at the place 0 of an axis.
+    Mirror {
+        a: Name,
+        axis: Num,
+    },
+    /// `swap A I J`: the cells with two axes exchanged.
+    Swap {
+        a: Name,
+        i: Num,
+        j: Num,
+    },
+    /// `clip A NUMS`: the cells that are in a box too, whose lower corner comes first.
+    Clip {
+        a: Name,
+        nums: Nums,
+    },
+    /// `slice A AXIS K`: the cells at one place along an axis, with this axis left out.
+    Slice {
+        a: Name,
+        axis: Num,
+        at: Num,
+    },
+    /// `proj A AXIS`: the cells with an axis left out.
+    Proj {
+        a: Name,
+        axis: Num,
+    },
+    /// `lift A AXIS LO HI`: the cells with a new axis put in, along which they go from one place
+    /// to another.
+    Lift {
+        a: Name,
+        axis: Num,
+        lo: Num,
+        hi: Num,
+    },
 }
 
 /// The formula that the words after `def NAME` make.
@@ -50,6 +108,20 @@ fn form(first: &[u8], rest: &[&[u8]]) -> Option<Formula>
         two_names(rest).map(|(a, b)| Formula::Xor { a, b })
     } else if is(first, "box") {
         number_then_numbers(rest).map(|(dim, nums)| Formula::Box { dim, nums })
+    } else if is(first, "shift") {
+        name_then_numbers(rest).map(|(a, nums)| Formula::Shift { a, nums })
+    } else if is(first, "mirror") {
+        name_then_number(rest).map(|(a, axis)| Formula::Mirror { a, axis })
+    } else if is(first, "swap") {
+        name_then_two(rest).map(|(a, (i, j))| Formula::Swap { a, i, j })
+    } else if is(first, "clip") {
+        name_then_numbers(rest).map(|(a, nums)| Formula::Clip { a, nums })
+    } else if is(first, "slice") {
+        name_then_two(rest).map(|(a, (axis, at))| Formula::Slice { a, axis, at })
+    } else if is(first, "proj") {
+        name_then_number(rest).map(|(a, axis)| Formula::Proj { a, axis })
+    } else if is(first, "lift") {
+        name_then_three(rest).map(|(a, (axis, (lo, hi)))| Formula::Lift { a, axis, lo, hi })
     } else {
         None
     }

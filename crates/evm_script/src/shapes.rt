@@ -2,7 +2,7 @@
 
 ghost use Rattle.std.specs.Prelude.{◌≡◌, ◌≤◌, ◌<◌, ◌^◌, map, IfSome, option_map, neg_ℤ, true, length};
 ghost use Rattle.std.specs.List.{list_all};
-ghost use Rattle.evm_script.specs.Shapes.{same_bytes, name_alone, name_number, name_numbers, two_names, number_numbers, numbers, some_numbers};
+ghost use Rattle.evm_script.specs.Shapes.{same_bytes, name_alone, name_number, name_two_numbers, name_three_numbers, name_numbers, two_names, two_numbers, three_numbers, number_numbers, numbers, some_numbers};
 ghost use Rattle.evm_script.specs.Words.{is_digit, is_digits, digits_value, digits, number, in_number_range};
 
 use super::names::{Name, digit};
@@ -34,6 +34,46 @@ pub(crate) fn name_then_number(rest: &[&[u8]]) -> Option<(Name, Num)>
 {
     match rest {
         [name, n] => Name::of(name).zip(read_number(n)),
+        _ => None,
+    }
+}
+
+/// `NAME M N`: a name, two numbers and nothing after them.
+pub(crate) fn name_then_two(rest: &[&[u8]]) -> Option<(Name, (Num, Num))>
+    ensures { result ≡ name_two_numbers (map (λ w. w.now) rest.now) }
+{
+    match rest {
+        [name, numbers @ ..] => Name::of(name).zip(two_numbers(numbers)),
+        _ => None,
+    }
+}
+
+/// `NAME K M N`: a name, three numbers and nothing after them.
+pub(crate) fn name_then_three(rest: &[&[u8]]) -> Option<(Name, (Num, (Num, Num)))>
+    ensures { result ≡ name_three_numbers (map (λ w. w.now) rest.now) }
+{
+    match rest {
+        [name, numbers @ ..] => Name::of(name).zip(three_numbers(numbers)),
+        _ => None,
+    }
+}
+
+/// `M N`: two numbers and nothing after them.
+fn two_numbers(words: &[&[u8]]) -> Option<(Num, Num)>
+    ensures { result ≡ two_numbers (map (λ w. w.now) words.now) }
+{
+    match words {
+        [m, n] => read_number(m).zip(read_number(n)),
+        _ => None,
+    }
+}
+
+/// `K M N`: three numbers and nothing after them.
+fn three_numbers(words: &[&[u8]]) -> Option<(Num, (Num, Num))>
+    ensures { result ≡ three_numbers (map (λ w. w.now) words.now) }
+{
+    match words {
+        [k, numbers @ ..] => read_number(k).zip(two_numbers(numbers)),
         _ => None,
     }
 }

@@ -30,6 +30,15 @@ fn reads_each_form(rt: HostRuntime) -> Result<(), Fail> {
             Ok(Command::Point { name, nums }),
         ),
         ("drop a_1", Ok(Command::Drop { name })),
+        (
+            "section a_1 2 2",
+            Ok(Command::Section {
+                name,
+                axis: dim,
+                at: dim,
+            }),
+        ),
+        ("project a_1 2", Ok(Command::Project { name, axis: dim })),
         (" list ", Ok(Command::List)),
         ("list a_1", Err(LineError::Syntax)),
         ("show A", Err(LineError::Syntax)),
@@ -51,6 +60,7 @@ fn reads_each_formula(rt: HostRuntime) -> Result<(), Fail> {
     let a = Name::of(b"a").ok_or("name")?;
     let b = Name::of(b"b2").ok_or("name")?;
     let dim = Num::of(2).ok_or("number")?;
+    let (one, lo) = (Num::within(1), Num::within(-3));
     let nums = Nums::of(&[0, -1, 3, 4]).ok_or("numbers")?;
     let cases = [
         ("def n or a b2", Some(Formula::Or { a, b })),
@@ -58,6 +68,33 @@ fn reads_each_formula(rt: HostRuntime) -> Result<(), Fail> {
         ("def n sub a b2", Some(Formula::Sub { a, b })),
         ("def n xor a b2", Some(Formula::Xor { a, b })),
         ("def n box 2 0 -1 3 4", Some(Formula::Box { dim, nums })),
+        ("def n shift a 0 -1 3 4", Some(Formula::Shift { a, nums })),
+        ("def n mirror a 1", Some(Formula::Mirror { a, axis: one })),
+        (
+            "def n swap a 1 2",
+            Some(Formula::Swap { a, i: one, j: dim }),
+        ),
+        ("def n clip a 0 -1 3 4", Some(Formula::Clip { a, nums })),
+        (
+            "def n slice a 1 2",
+            Some(Formula::Slice {
+                a,
+                axis: one,
+                at: dim,
+            }),
+        ),
+        ("def n proj a 2", Some(Formula::Proj { a, axis: dim })),
+        (
+            "def n lift a 2 -3 1",
+            Some(Formula::Lift {
+                a,
+                axis: dim,
+                lo,
+                hi: one,
+            }),
+        ),
+        ("def n lift a 2 -3", None),
+        ("def n slice a 1 2 3", None),
         ("def n box 0", None),
         ("def n sub a", None),
         ("def n sub a b2 a", None),
@@ -91,6 +128,12 @@ fn prints_and_counts(rt: HostRuntime) -> Result<(), Fail> {
         text.as_slice(),
         b"def a_1 box 2 0 -9999999999 10".as_slice()
     );
+    let (axis, at) = (dim, Num::within(-7));
+    let text = write_line(rt.alloc(), &Command::Section { name, axis, at })?;
+    assert_eq!(rt; text.as_slice(), b"section a_1 2 -7".as_slice());
+    let (a, lo, hi) = (name, at, dim);
+    let text = write_formula(rt.alloc(), &Formula::Lift { a, axis, lo, hi })?;
+    assert_eq!(rt; text.as_slice(), b"lift a_1 2 -7 2".as_slice());
     let b = Name::of(b"b").ok_or("name")?;
     let text = write_formula(rt.alloc(), &Formula::Sub { a: name, b })?;
     assert_eq!(rt; text.as_slice(), b"sub a_1 b".as_slice());

@@ -47,6 +47,44 @@ pub(crate) fn put_name_number(
     put_number(text, value)
 }
 
+/// Appends a first word, a name and two numbers.
+pub(crate) fn put_name_two(
+    text: &mut Vec<u8>,
+    first: &[u8],
+    name: &Name,
+    m: &Num,
+    n: &Num,
+) -> Result<(), NoMemory>
+    ensures text { OnOk result (text.new.items ≡ text.old.items ++ spaced (first.now ∷ name.now ∷ signed_decimal m.now ∷ signed_decimal n.now ∷ [])) }
+    ensures rule { OnOk result (is_name name.now ≡ true) }
+    ensures range_m { OnOk result (in_number_range m.now ≡ true) }
+    ensures range_n { OnOk result (in_number_range n.now ≡ true) }
+{
+    let value = n.value();
+    put_name_number(text, first, name, m)?;
+    put_number(text, value)
+}
+
+/// Appends a first word, a name and three numbers.
+pub(crate) fn put_name_three(
+    text: &mut Vec<u8>,
+    first: &[u8],
+    name: &Name,
+    k: &Num,
+    m: &Num,
+    n: &Num,
+) -> Result<(), NoMemory>
+    ensures text { OnOk result (text.new.items ≡ text.old.items ++ spaced (first.now ∷ name.now ∷ signed_decimal k.now ∷ signed_decimal m.now ∷ signed_decimal n.now ∷ [])) }
+    ensures rule { OnOk result (is_name name.now ≡ true) }
+    ensures range_k { OnOk result (in_number_range k.now ≡ true) }
+    ensures range_m { OnOk result (in_number_range m.now ≡ true) }
+    ensures range_n { OnOk result (in_number_range n.now ≡ true) }
+{
+    let value = n.value();
+    put_name_two(text, first, name, k, m)?;
+    put_number(text, value)
+}
+
 /// Appends a first word, a name and a list of numbers.
 pub(crate) fn put_name_numbers(
     text: &mut Vec<u8>,

@@ -12,11 +12,12 @@ use super::command::{Command, NoMemory};
 use super::formula::Formula;
 use super::names::Name;
 use super::texts::{
-    put_name, put_name_number, put_name_numbers, put_number_numbers, put_two_names, put_word,
+    put_name, put_name_number, put_name_numbers, put_name_three, put_name_two, put_number_numbers,
+    put_two_names, put_word,
 };
 use std::alloc::Global;
 
-/// Room for the text of each command: the definition of a box takes the most, 196 bytes.
+/// Room for the text of each command: the definition by a shift takes the most, 219 bytes.
 const TEXT_ROOM: usize = 224;
 
 /// The line of a command, without a line feed: its words with one space between them, numbers in
@@ -70,6 +71,8 @@ fn put_command(text: &mut Vec<u8>, command: &Command) -> Result<(), NoMemory>
         Command::Boundary { name } => put_name(text, b"boundary", name),
         Command::At { name, nums } => put_name_numbers(text, b"at", name, nums),
         Command::Point { name, nums } => put_name_numbers(text, b"point", name, nums),
+        Command::Section { name, axis, at } => put_name_two(text, b"section", name, axis, at),
+        Command::Project { name, axis } => put_name_number(text, b"project", name, axis),
         Command::List => put_word(text, b"list"),
     }
 }
@@ -97,6 +100,13 @@ fn put_formula(text: &mut Vec<u8>, formula: &Formula) -> Result<(), NoMemory>
         Formula::Sub { a, b } => put_two_names(text, b"sub", a, b),
         Formula::Xor { a, b } => put_two_names(text, b"xor", a, b),
         Formula::Box { dim, nums } => put_number_numbers(text, b"box", dim, nums),
+        Formula::Shift { a, nums } => put_name_numbers(text, b"shift", a, nums),
+        Formula::Mirror { a, axis } => put_name_number(text, b"mirror", a, axis),
+        Formula::Swap { a, i, j } => put_name_two(text, b"swap", a, i, j),
+        Formula::Clip { a, nums } => put_name_numbers(text, b"clip", a, nums),
+        Formula::Slice { a, axis, at } => put_name_two(text, b"slice", a, axis, at),
+        Formula::Proj { a, axis } => put_name_number(text, b"proj", a, axis),
+        Formula::Lift { a, axis, lo, hi } => put_name_three(text, b"lift", a, axis, lo, hi),
     }
 }
 

@@ -1,4 +1,5 @@
-use Rattle.evm_model.proofs.StepLaws.{mild_step, well_start, well_step}
+use Rattle.evm_model.proofs.EditLaws.{out_of_limits}
+use Rattle.evm_model.proofs.StepLaws.{mild_step, question_leaves, well_start, well_step}
 use Rattle.evm_model.proofs.steps_keep_scenes.Goals as goal
 
 pub returns-clause-refused : goal.returns-clause-refused
@@ -12,3 +13,9 @@ returns-clause-start c = well_start
 
 pub returns-clause-well : goal.returns-clause-well
 returns-clause-well c = well_step
+
+pub returns-clause-questions : goal.returns-clause-questions
+returns-clause-questions c = question_leaves
+
+pub returns-clause-limits : goal.returns-clause-limits
+returns-clause-limits c = out_of_limits

@@ -1,4 +1,4 @@
-use Rattle.evm_model.proofs.WellScenes.{well_value, well_unique, well_reaches, well_never, well_operands, value_dim, value_cells}
+use Rattle.evm_model.proofs.WellScenes.{well_value, well_unique, well_reaches, well_never, well_operands, value_dim, value_cells, shift_cells}
 use Rattle.evm_model.proofs.values_follow_formulas.Goals as goal
 
 pub returns-clause-values : goal.returns-clause-values
@@ -21,3 +21,6 @@ returns-clause-dim c = λ scene name well. value_dim scene well name
 
 pub returns-clause-cells : goal.returns-clause-cells
 returns-clause-cells c = λ scene name well. value_cells scene well name
+
+pub returns-clause-shifts : goal.returns-clause-shifts
+returns-clause-shifts c = λ scene name operand nums e well q f. shift_cells scene well name operand nums e q f
