@@ -47,7 +47,7 @@ place_found v point =
     by_tests false false = refl
 
 -- numbers in the limits of cells
-below_next : (x m : ℤ) → int_le x (m -ℤ pos 1) ≡ int_lt x m
+pub below_next : (x m : ℤ) → int_le x (m -ℤ pos 1) ≡ int_lt x m
 below_next x m =
     same_tests (int_le x (m -ℤ pos 1)) (int_lt x m)
     (λ h. lt_yes x m (omega (arith, ints, le_is x (m -ℤ pos 1) h)))

@@ -9,6 +9,7 @@ use super::edits::{edit, edit_name};
 use super::lists::list;
 use super::questions::{at, boundary, content, point, show};
 use super::refusals::Refusal;
+use super::sections::{project, section};
 use evm_rows::NoMemory;
 use evm_scene::{Edit, Scene};
 use evm_script::{Command, read_line};
@@ -37,6 +38,8 @@ fn carry_out(
         Command::Boundary { name } => boundary(scene, alloc, &name, out),
         Command::At { name, nums } => at(scene, &name, &nums, out),
         Command::Point { name, nums } => point(scene, &name, &nums, out),
+        Command::Section { name, axis, at } => section(scene, alloc, &name, &axis, &at, out),
+        Command::Project { name, axis } => project(scene, alloc, &name, &axis, out),
     }
 }
 

@@ -2,7 +2,7 @@
 //!
 //! A session holds a scene: names of solids of 2 to 6 dimensions, each an input or a formula over other names. `input` makes an
 //! input without cells, `toggle`, `add` and `cut` change one by a box, `def` makes or changes a formula, and `drop` takes a name
-//! out. `show`, `content`, `boundary`, `at` and `point` ask about one name, and `list` about all. The contracts speak of a
+//! out. `show`, `section`, `project`, `content`, `boundary`, `at` and `point` ask about one name, and `list` about all. The contracts speak of a
 //! session as a scene of `evm_model`, whose `step` says for each scene and line what the reply is and what the scene is after
 //! it: the vertices, measures and places there are those of sets of unit cells.
 //!
@@ -28,6 +28,7 @@ mod numbers;
 mod questions;
 mod refusals;
 mod replies;
+mod sections;
 
 use answers::answer;
 pub use evm_rows::NoMemory;

@@ -7,7 +7,7 @@ ghost use Rattle.evm_session.specs.Numbers.{is_between};
 use evm_script::NUMS_MAX;
 
 /// A number as a coordinate, or `None` exactly where it is not from `low` to `high`.
-fn coordinate(n: i64, low: i32, high: i32) -> Option<i32>
+pub fn coordinate(n: i64, low: i32, high: i32) -> Option<i32>
     ensures { MatchOption result (is_between low high n ≡ false) (λ x. (is_between low high n ≡ true) × (x ≡ n)) }
 {
     if i64::from(low) <= n && n <= i64::from(high) {

@@ -118,6 +118,28 @@ const FOLLOWED: [(&str, &str); 9] = [
     ("list", "ok 3\na 2 input\nc 2 xor a s\ns 2 box 2 -1 0 1 1\n"),
 ];
 
+/// Two cubes one above the other, and what is refused of a question about an axis.
+const SECTIONS: [(&str, &str); 18] = [
+    ("input a 3", "ok 0\n"),
+    ("add a 0 0 0 1 1 1", "ok 1\n"),
+    ("add a 0 0 5 1 1 6", "ok 1\n"),
+    ("project a 3", "ok 2 4\n0 0\n0 1\n1 0\n1 1\n"),
+    ("section a 3 5", "ok 2 4\n0 0\n0 1\n1 0\n1 1\n"),
+    ("section a 3 1", "ok 2 0\n"),
+    ("section a 3 524287", "ok 2 0\n"),
+    ("section a 3 524288", "no range\n"),
+    ("section a 4 524288", "no dim\n"),
+    ("section a 0 0", "no dim\n"),
+    ("section zz 1 0", "no name\n"),
+    ("project a 0", "no dim\n"),
+    ("project a -1", "no dim\n"),
+    ("project zz 1", "no name\n"),
+    ("input b 2", "ok 0\n"),
+    ("add b 0 0 2 1", "ok 1\n"),
+    ("section b 1 0", "ok 1 2\n0\n1\n"),
+    ("project b 2", "ok 1 2\n0\n2\n"),
+];
+
 /// Asks a new session.
 fn answers(rt: &(impl Abort + AllocGlobal), answered: &[(&str, &str)]) -> Result<(), Fail> {
     let mut session = Session::new(rt.alloc())?;
@@ -134,6 +156,11 @@ fn answers(rt: &(impl Abort + AllocGlobal), answered: &[(&str, &str)]) -> Result
 #[test]
 fn inputs_are_edited_and_asked(rt: HostRuntime) -> Result<(), Fail> {
     answers(&rt, &BOXES)
+}
+
+#[test]
+fn solids_are_cut_and_projected(rt: HostRuntime) -> Result<(), Fail> {
+    answers(&rt, &SECTIONS)
 }
 
 #[test]

@@ -121,6 +121,46 @@ fn formulas_follow_their_operands(rt: HostRuntime) -> Result<(), Fail> {
     Ok(())
 }
 
+/// Scripts with shapes, the replies, and how they end.
+const SHAPED: [(&str, &str, Status); 4] = [
+    (
+        "input a 2 / add a 0 0 1 1 / def s shift a 524287 0 / add a 1 0 2 1 / content a / show s",
+        "ok 0 / ok 1 / ok 0 / no range / ok 1 / ok 2 4 / 524287 0 / 524287 1 / 524288 0 / 524288 1",
+        Status::Refused,
+    ),
+    (
+        "input a 3 / add a 0 0 0 1 1 1 / add a 0 0 5 1 1 6 / project a 3 / section a 3 5 / section a 3 1",
+        "ok 0 / ok 1 / ok 1 / ok 2 4 / 0 0 / 0 1 / 1 0 / 1 1 / ok 2 4 / 0 0 / 0 1 / 1 0 / 1 1 / ok 2 0",
+        Status::Done,
+    ),
+    (
+        "input a 2 / add a 0 0 2 1 / def m mirror a 1 / show m / def w swap a 1 2 / show w / def k clip a 1 0 5 5 / show k / def l lift a 3 4 6 / boundary l / def g slice l 3 5 / content g / def p proj l 3 / content p / def h slice a 1 0 / section a 1 0",
+        "ok 0 / ok 1 / ok 0 / ok 2 4 / -2 0 / -2 1 / 0 0 / 0 1 / ok 0 / ok 2 4 / 0 0 / 0 2 / 1 0 / 1 2 / ok 0 / ok 2 4 / 1 0 / 1 1 / 2 0 / 2 1 / ok 0 / ok 16 / ok 0 / ok 2 / ok 0 / ok 2 / no dim / ok 1 2 / 0 / 1",
+        Status::Refused,
+    ),
+    (
+        "input a 2 / add a 0 0 1 1 / add a 0 5 1 6 / def m mirror a 1 / def s shift m -524287 0 / add a 1 0 2 1 / content m / content s",
+        "ok 0 / ok 1 / ok 1 / ok 0 / ok 0 / no range / ok 2 / ok 2",
+        Status::Refused,
+    ),
+];
+
+#[test]
+fn shapes_are_formulas_and_questions(rt: HostRuntime) -> Result<(), Fail> {
+    let alloc = rt.alloc();
+    for (script, replies, end) in SHAPED {
+        let (status, output) = run(alloc, lines_of(alloc, script)?.into_bytes())?;
+        let wanted = lines_of(alloc, replies)?;
+        assert_eq!(rt;
+            str::from_utf8(output.bytes()),
+            Ok(wanted.as_str()),
+            "at {script}"
+        );
+        assert_eq!(rt; status, end, "at {script}");
+    }
+    Ok(())
+}
+
 /// Scripts of which some lines are refused, and the replies.
 const REFUSED: [(&str, &str); 6] = [
     (

@@ -1,0 +1,80 @@
+-- Sections and projections, as the model states them.
+use Rattle.std.proofs.Common.{◌≡◌, ℕ, ◌<◌, ◌≤◌, Bool, true, false, not, ◌&&◌, ◌-◌, List, [], ◌∷◌, Option, Some, None, ℤ, pos, neg_ℤ, ◌-ℤ◌, ◌≤ℤ◌, int_le, int_lt, nat_abs, is_some, refl, ap, ◌∙◌, sym, arith}
+use Rattle.std.proofs.lemmas.Bool.{false≢true}
+use Rattle.std.proofs.lemmas.Int.{ints}
+use Rattle.evm_cells.specs.Limits.{limit, is_cell_coord}
+use Rattle.evm_cells.specs.Sections.{slice}
+use Rattle.evm_cells.specs.Shapes.{proj}
+use Rattle.evm_cells.specs.Vertices.{cells}
+use Rattle.evm_cells.proofs.Coords.{le_is}
+use Rattle.evm_cells.proofs.Xor.{and_first}
+use Rattle.evm_rows.specs.Rows.{Vertices}
+use Rattle.evm_model.specs.Figures.{Figure, slice_of, proj_of}
+use Rattle.evm_model.specs.Scene.{Scene, Entry, entry_of, stands, dim_of, dim_of_entry, is_axis, is_dim, IsWell}
+use Rattle.evm_model.specs.Edits.{Code, Name, Dim, Range, first_cause, section_causes, axis_causes}
+use Rattle.evm_model.specs.Replies.{Reply}
+use Rattle.evm_model.specs.Steps.{asked, stays, unless_refused}
+use Rattle.evm_model.proofs.Lookups.{found_passes}
+use Rattle.evm_scene.specs.Tables.{figure_of}
+use Rattle.evm_session.specs.Numbers.{is_between}
+use Rattle.evm_session.proofs.Answering.{below_next}
+
+-- a name that stands has two dimensions at least
+pub deep_enough : (scene : Scene) (name : List ℕ) → IsWell scene → stands scene name ≡ true → 2 ≤ dim_of scene name
+deep_enough scene name well s = by_entry (entry_of scene.entries name) refl s
+  where
+    by_entry : (o : Option Entry) → entry_of scene.entries name ≡ o → is_some o ≡ true → 2 ≤ dim_of_entry o
+    by_entry None e h = absurd (false≢true h)
+    by_entry (Some x) e h =
+        let dim : is_dim (pos x.dim) ≡ true = found_passes (λ (y : Entry). is_dim (pos y.dim)) scene.entries name x e well.dims in
+        let low : pos 2 ≤ℤ pos x.dim = le_is (pos 2) (pos x.dim) (and_first (int_le (pos 2) (pos x.dim)) (int_le (pos x.dim) (pos 6)) dim) in
+        omega (arith, ints, low)
+
+-- a height between the limits of cells
+pub between_heights : (n : ℕ) (x low high : ℤ) → low ≡ neg_ℤ (pos (limit n)) → high ≡ pos (limit n) -ℤ pos 1 → is_between low high x ≡ is_cell_coord n x
+unfolding is_cell_coord
+between_heights n x low high l h =
+    ap (λ (y : ℤ). is_between y high x) l
+    ∙ ap (λ (y : ℤ). is_between (neg_ℤ (pos (limit n))) y x) h
+    ∙ ap (λ (b : Bool). int_le (neg_ℤ (pos (limit n))) x && b) (below_next x (pos (limit n)))
+
+-- a question about sections, where the name stands and has this dimension
+pub section_by : (scene : Scene) (name : List ℕ) (axis at : ℤ) (n : ℕ) (reply : Reply) (b c : Bool) → stands scene name ≡ true → n ≡ dim_of scene name → is_axis n axis ≡ b → is_cell_coord n at ≡ c
+    → asked (section_causes scene name axis at) scene reply ≡ unless_refused (first_cause ((not b, Dim) ∷ (not c, Range) ∷ [])) scene (stays scene reply)
+section_by scene name axis at n reply b c s d e g =
+    ap (λ (t : Bool). unless_refused (first_cause ((not t, Name) ∷ (not (is_axis (dim_of scene name) axis), Dim) ∷ (not (is_cell_coord (dim_of scene name) at), Range) ∷ [])) scene (stays scene reply)) s
+    ∙ ap (λ (m : ℕ). unless_refused (first_cause ((not (is_axis m axis), Dim) ∷ (not (is_cell_coord m at), Range) ∷ [])) scene (stays scene reply)) (sym d)
+    ∙ ap (λ (t : Bool). unless_refused (first_cause ((not t, Dim) ∷ (not (is_cell_coord n at), Range) ∷ [])) scene (stays scene reply)) e
+    ∙ ap (λ (t : Bool). unless_refused (first_cause ((not b, Dim) ∷ (not t, Range) ∷ [])) scene (stays scene reply)) g
+
+-- a question about an axis, likewise
+pub axis_by : (scene : Scene) (name : List ℕ) (axis : ℤ) (n : ℕ) (reply : Reply) (b : Bool) → stands scene name ≡ true → n ≡ dim_of scene name → is_axis n axis ≡ b
+    → asked (axis_causes scene name axis) scene reply ≡ unless_refused (first_cause ((not b, Dim) ∷ [])) scene (stays scene reply)
+axis_by scene name axis n reply b s d e =
+    ap (λ (t : Bool). unless_refused (first_cause ((not t, Name) ∷ (not (is_axis (dim_of scene name) axis), Dim) ∷ [])) scene (stays scene reply)) s
+    ∙ ap (λ (m : ℕ). unless_refused (first_cause ((not (is_axis m axis), Dim) ∷ [])) scene (stays scene reply)) (sym d)
+    ∙ ap (λ (t : Bool). unless_refused (first_cause ((not t, Dim) ∷ [])) scene (stays scene reply)) e
+
+figure_with : ℕ → List (List ℤ) → Figure
+figure_with n S = record { dim = n; cells = S }
+
+-- the section that was made is the model's
+pub slice_found : (a v s : Vertices) (k : ℕ) (axis height at : ℤ) → a ≡ v → s.dim ≡ a.dim - 1 → cells s.dim s.rows ≡ slice (a.dim - 1) (k - 1) height (cells a.dim a.rows) → k ≡ nat_abs axis → height ≡ at
+    → figure_of s ≡ slice_of (nat_abs axis) at (figure_of v)
+unfolding slice_of figure_with
+slice_found a v s k axis height at same dim made e h =
+    ap (λ (n : ℕ). figure_with n (cells s.dim s.rows)) dim
+    ∙ ap (λ (S : List (List ℤ)). figure_with (a.dim - 1) S) made
+    ∙ ap (λ (i : ℕ). slice_of i height (figure_of a)) e
+    ∙ ap (λ (x : ℤ). slice_of (nat_abs axis) x (figure_of a)) h
+    ∙ ap (λ (b : Vertices). slice_of (nat_abs axis) at (figure_of b)) same
+
+-- and so is the projection
+pub proj_found : (a v s : Vertices) (k : ℕ) (axis : ℤ) → a ≡ v → s.dim ≡ a.dim - 1 → cells s.dim s.rows ≡ proj (a.dim - 1) (k - 1) (cells a.dim a.rows) → k ≡ nat_abs axis
+    → figure_of s ≡ proj_of (nat_abs axis) (figure_of v)
+unfolding proj_of figure_with
+proj_found a v s k axis same dim made e =
+    ap (λ (n : ℕ). figure_with n (cells s.dim s.rows)) dim
+    ∙ ap (λ (S : List (List ℤ)). figure_with (a.dim - 1) S) made
+    ∙ ap (λ (i : ℕ). proj_of i (figure_of a)) e
+    ∙ ap (λ (b : Vertices). proj_of (nat_abs axis) (figure_of b)) same

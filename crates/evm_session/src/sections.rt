@@ -1,0 +1,92 @@
+//! Sections and projections of the solid of a name.
+
+ghost use Rattle.std.specs.Prelude.{◌≡◌, ◌<◌, ◌≤◌, nat_abs, true, false, MatchOption};
+ghost use Rattle.evm_cells.specs.Limits.{is_cell_coord};
+ghost use Rattle.evm_model.specs.Scene.{is_axis};
+ghost use Rattle.evm_model.specs.Steps.{turn_of};
+ghost use Rattle.evm_session.specs.Carried.{Carries};
+ghost use Rattle.evm_script.specs.declared.command.Command.TheVariants as commands;
+
+use super::numbers::coordinate;
+use super::refusals::Refusal;
+use super::replies::say_solid;
+use evm_rows::limit;
+use evm_scene::Scene;
+use evm_script::{Name, Num};
+use evm_shapes as shapes;
+use std::alloc::Global;
+
+/// The axis that a number states, counted from 1, or `None` exactly where it is none of this dimension.
+fn axis_of(axis: &Num, dim: usize) -> Option<usize>
+    requires { dim ≤ 6 }
+    ensures { MatchOption result (is_axis dim axis.now ≡ false) (λ found. (is_axis dim axis.now ≡ true) × (0 < found) × (found ≤ dim) × (found ≡ nat_abs axis.now)) }
+{
+    let axis = axis.value();
+    if 1 <= axis && axis <= dim as i64 {
+        Some(axis as usize)
+    } else {
+        None
+    }
+}
+
+/// The height that a number states, or `None` exactly where it is no coordinate of a cell of this dimension.
+fn height_of(at: &Num, dim: usize) -> Option<i32>
+    requires low { 0 < dim }
+    requires high { dim ≤ 6 }
+    ensures { MatchOption result (is_cell_coord dim at.now ≡ false) (λ found. (is_cell_coord dim at.now ≡ true) × (found ≡ at.now)) }
+{
+    let limit = limit(dim);
+    coordinate(at.value(), -limit, limit - 1)
+}
+
+/// The extreme vertices of the section at a height on an axis.
+pub fn section(
+    scene: &Scene,
+    alloc: Global,
+    name: &Name,
+    axis: &Num,
+    at: &Num,
+    out: &mut Vec<u8>,
+) -> Result<(), Refusal>
+    ensures { Carries result scene.now scene.now out.old.items out.new.items (turn_of scene.now (commands.Section name.now axis.now at.now)) }
+{
+    scene.facts();
+    let Some(solid) = scene.kept(name) else {
+        return Err(Refusal::Name);
+    };
+    solid.facts();
+    let dim = solid.dim();
+    let Some(along) = axis_of(axis, dim) else {
+        return Err(Refusal::Dim);
+    };
+    let Some(at) = height_of(at, dim) else {
+        return Err(Refusal::Range);
+    };
+    let section = shapes::slice(alloc, solid.rows(), along, at)?;
+    say_solid(out, &section)?;
+    Ok(())
+}
+
+/// The extreme vertices of the solid with an axis left out.
+pub fn project(
+    scene: &Scene,
+    alloc: Global,
+    name: &Name,
+    axis: &Num,
+    out: &mut Vec<u8>,
+) -> Result<(), Refusal>
+    ensures { Carries result scene.now scene.now out.old.items out.new.items (turn_of scene.now (commands.Project name.now axis.now)) }
+{
+    scene.facts();
+    let Some(solid) = scene.kept(name) else {
+        return Err(Refusal::Name);
+    };
+    solid.facts();
+    let dim = solid.dim();
+    let Some(axis) = axis_of(axis, dim) else {
+        return Err(Refusal::Dim);
+    };
+    let shadow = shapes::project(alloc, solid.rows(), axis)?;
+    say_solid(out, &shadow)?;
+    Ok(())
+}
