@@ -6,7 +6,7 @@ use Rattle.std.specs.Map.{keys_of}
 use Rattle.evm_script.specs.declared.formula.Formula.{Formula}
 use Rattle.evm_model.specs.Figures.{Figure}
 use Rattle.evm_model.specs.Orders.{is_among}
-use Rattle.evm_model.specs.Scene.{Made, Entry, operands, formula_value, with_entry, reaches}
+use Rattle.evm_model.specs.Scene.{Made, Entry, operands, formula_value, formula_stays, with_entry, reaches}
 use Rattle.evm_model.specs.Edits.{closes_cycle, changed_names}
 use Rattle.evm_model.proofs.Names.{same_name, name_itself, name_sym, any_among}
 use Rattle.evm_scene.specs.declared.node.Node.{Node}
@@ -23,7 +23,7 @@ use Rattle.evm_scene.proofs.Counted.{count_carried}
 
 module _ (t u : Table) (order front reach : List (List ℕ)) (name : List ℕ) (f : Formula) (p : Pending) (n : ℕ)
     (before : IsKept t order) (parted : Parted (reads_at t) order name front reach [])
-    (redefined : IsRedefined t front name f p) (installed : IsInstalled t u name f p n)
+    (redefined : IsRedefined t front name (formula_value f (kept t)) p) (stay : formula_stays f (kept t) ≡ true) (installed : IsInstalled t u name f p n)
     (fits : FormulaSized (dim_at t name) f (dim_at t)) (stands : is_some (node_at t name) ≡ true)
     (present : (o : List ℕ) → is_among o (operands f) ≡ true → is_some (node_at t o) ≡ true)
     (miss : meets reach (operands f) ≡ false) where
@@ -67,7 +67,7 @@ module _ (t u : Table) (order front reach : List (List ℕ)) (name : List ℕ) (
   kept_from None at h = absurd (true≢false (sym h))
   kept_from (Some n) at h =
       kept_redefined t u order front reach name f (with_made n f installed.own.after) ((name, redefined.own) ∷ []) p
-      before parted redefined.carried (here n at) refl (ap node_dim (sym at)) own_solid own_value fits places size stands present
+      before parted redefined.carried (here n at) refl (ap node_dim (sym at)) own_solid own_value stay fits places size stands present
       (λ o m. meets_none reach (operands f) miss o m)
 
   pub installed_kept : IsKept u (front ++ reach)
@@ -111,9 +111,9 @@ module _ (t u : Table) (order front reach : List (List ℕ)) (name : List ℕ) (
   count_from names (Some m) at h =
       count_carried t u order (front ++ reach) front name redefined.own p installed.rest before installed_kept names redefined.carried stands own_change
       (redefined_stands t u order front reach name f (with_made m f installed.own.after) ((name, redefined.own) ∷ []) p
-      before parted redefined.carried (here m at) refl (ap node_dim (sym at)) own_solid own_value fits places size stands present free)
+      before parted redefined.carried (here m at) refl (ap node_dim (sym at)) own_solid own_value stay fits places size stands present free)
       (redefined_values t u order front reach name f (with_made m f installed.own.after) ((name, redefined.own) ∷ []) p
-      before parted redefined.carried (here m at) refl (ap node_dim (sym at)) own_solid own_value fits places size stands present free)
+      before parted redefined.carried (here m at) refl (ap node_dim (sym at)) own_solid own_value stay fits places size stands present free)
       installed.without n (subst (λ (c : Change). IsCount c p installed.rest n) same_change installed.count)
     where
       free : (o : List ℕ) → is_among o (operands f) ≡ true → is_among o reach ≡ false

@@ -8,15 +8,10 @@ use Rattle.evm_model.specs.Scene.{formula_value}
 use Rattle.evm_model.proofs.Names.{same_name}
 use Rattle.evm_scene.specs.declared.node.Node.{Node}
 use Rattle.evm_scene.specs.declared.node.Change.{Change}
-use Rattle.evm_scene.specs.Tables.{Table, figure_of, node_at, node_reads, reads_at, made_value, node_value, node_figure, kept, node_dim, dim_at, MadeSized, NodeSized}
+use Rattle.evm_scene.specs.Tables.{Table, figure_of, node_at, node_reads, reads_at, made_value, node_value, made_stays, node_stays, node_figure, kept, node_dim, dim_at, MadeSized, NodeSized}
 use Rattle.evm_scene.specs.Orders.{IsKept}
 use Rattle.evm_scene.specs.Changes.{Pending, change_at, after_of, moved, moved_node, IsChange, IsCarried}
-use Rattle.evm_scene.proofs.Views.{value_same, operand_stands, ordered_same}
-
--- the formula of a node
-abbrev pub node_formula : Option Node → Option Formula
-node_formula None = None
-node_formula (Some n) = n.formula
+use Rattle.evm_scene.proofs.Views.{value_same, stays_same, operand_stands, ordered_same, node_formula}
 
 pub reads_moved : (n : Option Node) (c : Option Change) → node_reads (moved_node n c) ≡ node_reads n
 reads_moved None c = refl
@@ -62,6 +57,16 @@ value_formula None g f h = never h
     never e = cc
 value_formula (Some n) g f h = ap (λ m. made_value (figure_of n.solid) m f) h
 
+pub stays_moved : (n : Option Node) (c : Option Change) (f : List ℕ → Figure) → node_stays (moved_node n c) f ≡ node_stays n f
+stays_moved None c f = refl
+stays_moved (Some n) None f = refl
+stays_moved (Some n) (Some c) f = refl
+
+-- what is no formula moves no cell
+pub given_stays : (n : Option Node) (f : List ℕ → Figure) → node_formula n ≡ None → node_stays n f ≡ true
+given_stays None f h = refl
+given_stays (Some n) f h = ap (λ m. made_stays m f) h
+
 -- once all changes are in place, all is kept again
 module _ (t u : Table) (order front : List (List ℕ)) (name : List ℕ) (old p : Pending)
     (before : IsKept t order) (carried : IsCarried t front name old p)
@@ -95,6 +100,13 @@ module _ (t u : Table) (order front : List (List ℕ)) (name : List ℕ) (old p 
       subst (λ n. node_figure n ≡ node_value n (kept u)) (sym (places x))
       (fixed_moved (node_at t x) (change_at p x) (kept u) (formula_part x (bytes_eq x name) refl))
 
+  new_stays : (x : List ℕ) → node_stays (node_at u x) (kept u) ≡ true
+  new_stays x = ap (λ n. node_stays n (kept u)) (places x) ∙ stays_moved (node_at t x) (change_at p x) (kept u) ∙ by (bytes_eq x name) refl
+    where
+      by : (b : Bool) → bytes_eq x name ≡ b → node_stays (node_at t x) (kept u) ≡ true
+      by true d = given_stays (node_at t x) (kept u) (ap (λ k. node_formula (node_at t k)) (same_name x name d) ∙ own)
+      by false d = sym (stays_same (node_at t x) (moved t p) (kept u) (λ o r. new_kept o (operand_stands t order before x o r))) ∙ carried.stays x d
+
   new_sized : (x : List ℕ) → NodeSized (node_at u x) (dim_at u)
   new_sized x =
       subst (λ d. NodeSized (node_at u x) d) new_dims
@@ -108,4 +120,5 @@ module _ (t u : Table) (order front : List (List ℕ)) (name : List ℕ) (old p 
     size = before.size ∙ sym size;
     sized = new_sized;
     fixed = new_fixed;
+    stays = new_stays;
   }

@@ -7,6 +7,8 @@ pub mod Wells
 pub mod Unread
 pub mod TakenOut
 pub mod Walks
+pub mod Halted
+pub mod Stuck
 pub mod Puts
 pub mod Kepts
 pub mod NewNames
@@ -18,4 +20,7 @@ pub mod Counted
 pub mod Corners
 pub mod Causes
 pub mod Planned
+pub mod ShapeValues
+pub mod Stated
+pub mod FormulaLaws
 pub mod Reformed

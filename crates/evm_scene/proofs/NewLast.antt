@@ -1,27 +1,19 @@
 -- A new name goes last, in the table and in the order.
 use Rattle.std.proofs.Common.{◌≡◌, ℕ, ◌+◌, Bool, true, false, cond, ◌||◌, List, [], ◌∷◌, ◌++◌, Option, None, Some, refl, sym, ap, subst, ◌∙◌, true≢false, is_some, length, length-append, bytes_eq, arith}
 use Rattle.evm_script.specs.declared.formula.Formula.{Formula}
-use Rattle.evm_script.specs.declared.formula.Formula.TheVariants.{Or, And, Sub, Xor, Box}
 use Rattle.evm_model.specs.Orders.{is_among, AllSeen, Ordered}
 use Rattle.evm_model.specs.Scene.{operands}
 use Rattle.evm_model.proofs.Names.{same_name, name_itself, name_sym, or_right, or-false, among_here, among_later, among-append}
 use Rattle.evm_model.proofs.Orders.{ordered_push}
 use Rattle.evm_scene.specs.declared.node.Node.{Node}
-use Rattle.evm_scene.specs.Tables.{Table, figure_of, node_at, made_reads, node_reads, reads_at, node_value, node_figure, kept, node_dim, dim_at, FormulaSized, MadeSized, NodeSized}
+use Rattle.evm_scene.specs.Tables.{Table, figure_of, node_at, made_reads, node_reads, reads_at, node_value, node_stays, node_figure, kept, node_dim, dim_at, FormulaSized, MadeSized, NodeSized}
 use Rattle.evm_scene.specs.Orders.{IsKept}
-use Rattle.evm_scene.proofs.Views.{value_same, operand_stands}
+use Rattle.evm_scene.proofs.Views.{value_same, stays_same, operand_stands}
 use Rattle.evm_scene.proofs.Parts.{ordered_on}
 
 -- a formula has its dimension where those of its operands stay
-both_sized : (n : ℕ) (a b : List ℕ) (d e : List ℕ → ℕ) → ((o : List ℕ) → is_among o (a ∷ b ∷ []) ≡ true → d o ≡ e o) → (d a ≡ n) × (d b ≡ n) → (e a ≡ n) × (e b ≡ n)
-both_sized n a b d e same h = (sym (same a (among_here a (b ∷ []))) ∙ h.0, sym (same b (among_later b a (b ∷ []) (among_here b []))) ∙ h.1)
-
 formula_sized : (n : ℕ) (f : Formula) (d e : List ℕ → ℕ) → ((o : List ℕ) → is_among o (operands f) ≡ true → d o ≡ e o) → FormulaSized n f d → FormulaSized n f e
-formula_sized n (Or a b) d e same h = both_sized n a b d e same h
-formula_sized n (And a b) d e same h = both_sized n a b d e same h
-formula_sized n (Sub a b) d e same h = both_sized n a b d e same h
-formula_sized n (Xor a b) d e same h = both_sized n a b d e same h
-formula_sized n (Box dim nums) d e same h = h
+formula_sized n f d e same h = (λ o m. sym (same o m) ∙ h.0 o m, h.1)
 
 made_sized : (n : ℕ) (m : Option Formula) (d e : List ℕ → ℕ) → ((o : List ℕ) → is_among o (made_reads m) ≡ true → d o ≡ e o) → MadeSized n m d → MadeSized n m e
 made_sized n None d e same h = tt
@@ -34,7 +26,7 @@ node_sized (Some n) d e same h = (h.0, h.1, made_sized n.dim n.formula d e same 
 module _ (t u : Table) (order : List (List ℕ)) (name : List ℕ) (node : Node) (before : IsKept t order) (fresh : node_at t name ≡ None)
     (places : (x : List ℕ) → node_at u x ≡ cond (bytes_eq name x) (Some node) (node_at t x)) (size : length u ≡ length t + 1)
     (operands : (o : List ℕ) → is_among o (made_reads node.formula) ≡ true → is_some (node_at t o) ≡ true)
-    (sized : NodeSized (Some node) (dim_at t)) (value : figure_of node.solid ≡ node_value (Some node) (kept t)) where
+    (sized : NodeSized (Some node) (dim_at t)) (value : figure_of node.solid ≡ node_value (Some node) (kept t)) (stay : node_stays (Some node) (kept t) ≡ true) where
   here : node_at u name ≡ Some node
   here = places name ∙ ap (λ b. cond b (Some node) (node_at t name)) (name_itself name)
 
@@ -83,6 +75,14 @@ module _ (t u : Table) (order : List (List ℕ)) (name : List ℕ) (node : Node)
       subst (λ n. node_figure n ≡ node_value n (kept u)) (sym (else_at x d))
       (before.fixed x ∙ value_same (node_at t x) (kept t) (kept u) (λ o m. kept_same o (operand_stands t order before x o m)))
 
+  stays_at : (x : List ℕ) (b : Bool) → bytes_eq x name ≡ b → node_stays (node_at u x) (kept u) ≡ true
+  stays_at x true d =
+      subst (λ k. node_stays (node_at u k) (kept u) ≡ true) (sym (same_name x name d))
+      (ap (λ n. node_stays n (kept u)) here ∙ sym (stays_same (Some node) (kept t) (kept u) (λ o m. kept_same o (operands o m))) ∙ stay)
+  stays_at x false d =
+      ap (λ n. node_stays n (kept u)) (else_at x d)
+      ∙ sym (stays_same (node_at t x) (kept t) (kept u) (λ o m. kept_same o (operand_stands t order before x o m))) ∙ before.stays x
+
   sized_at : (x : List ℕ) (b : Bool) → bytes_eq x name ≡ b → NodeSized (node_at u x) (dim_at u)
   sized_at x true d =
       subst (λ k. NodeSized (node_at u k) (dim_at u)) (sym (same_name x name d))
@@ -98,4 +98,5 @@ module _ (t u : Table) (order : List (List ℕ)) (name : List ℕ) (node : Node)
     size = omega (arith, length-append order (name ∷ []), before.size, size);
     sized = λ x. sized_at x (bytes_eq x name) refl;
     fixed = λ x. fixed_at x (bytes_eq x name) refl;
+    stays = λ x. stays_at x (bytes_eq x name) refl;
   }

@@ -12,7 +12,8 @@ use Rattle.evm_scene.specs.Tables.{Table, figure_of, node_at, put_solid, with_so
 use Rattle.evm_scene.specs.Orders.{IsKept}
 use Rattle.evm_scene.specs.Changes.{Pending, change_at, put_all, moved, moved_node, MovesNode, IsChange, IsCarried}
 use Rattle.evm_scene.proofs.Puts.{node_put, node_put_all, length_put, length_put_all, moved_again, moved_none}
-use Rattle.evm_scene.proofs.Kepts.{node_formula, kept_again, some_moved, solid_moved}
+use Rattle.evm_scene.proofs.Kepts.{kept_again, some_moved, solid_moved}
+use Rattle.evm_scene.proofs.Views.{node_formula}
 use Rattle.evm_scene.proofs.Views.{view_put_all, view_put_given}
 
 module _ (t : Table) (order : List (List ℕ)) (name : List ℕ) (old p q : Pending) (seed : Change)

@@ -1,9 +1,11 @@
 -- What refuses an edit of an input by a box, by the table.
-use Rattle.std.proofs.Common.{◌≡◌, ℕ, ◌*◌, ◌==◌, Bool, true, false, not, List, [], ◌∷◌, Option, None, Some, Result, Ok, Err, ℤ, length, refl, sym, ap, subst, ◌∙◌, is_some}
+use Rattle.std.proofs.Common.{◌≡◌, ℕ, ◌*◌, ◌==◌, Bool, true, false, not, List, [], ◌∷◌, ◌++◌, Option, None, Some, Result, Ok, Err, ℤ, length, refl, sym, ap, subst, ◌∙◌, is_some}
+use Rattle.evm_delta.specs.declared.shapes.DeltaError.{DeltaError}
+use Rattle.evm_delta.specs.declared.shapes.DeltaError.TheVariants as errors
 use Rattle.evm_rows.specs.Rows.{Vertices}
 use Rattle.evm_model.specs.Figures.{Figure, box_fits, low_of, high_of, box_at, xor_of, or_of, sub_of}
-use Rattle.evm_model.specs.Scene.{Scene, stands, is_input, dim_of, value, with_figure}
-use Rattle.evm_model.specs.Edits.{Edit, Code, Name, Kind, Dim, Range, first_cause, box_causes, refusal, after, with_box}
+use Rattle.evm_model.specs.Scene.{Scene, stands, is_input, dim_of, value, with_figure, all_stay}
+use Rattle.evm_model.specs.Edits.{Edit, Code, Name, Kind, Dim, Range, first_cause, box_causes, value_causes, refusal, after, changed, changed_names, with_box}
 use Rattle.evm_scene.specs.declared.node.Node.{Node}
 use Rattle.evm_scene.specs.declared.node.Change.{Change}
 use Rattle.evm_scene.specs.declared.boxes.BoxEdit.{BoxEdit}
@@ -11,13 +13,14 @@ use Rattle.evm_scene.specs.declared.boxes.BoxEdit.TheVariants.{Toggle, Add, Cut}
 use Rattle.evm_scene.specs.declared.edit.Refusal.{Refusal}
 use Rattle.evm_scene.specs.declared.edit.Refusal.TheVariants as why
 use Rattle.evm_scene.specs.Tables.{Table, figure_of, node_at, node_figure, node_dim, is_made, kept, scene_of}
-use Rattle.evm_scene.specs.Orders.{IsKept}
 use Rattle.evm_scene.specs.Changes.{IsChange}
+use Rattle.evm_scene.specs.Applied.{Applies}
+use Rattle.evm_scene.specs.Refused.{of_delta_error}
 use Rattle.evm_scene.specs.Combined.{MakesBox}
 use Rattle.evm_scene.specs.BoxEdits.{figure_by, edit_by, IsRefused, IsPlanned}
-use Rattle.evm_scene.proofs.Views.{stands_at, dim_is, input_at, is_given, kept_is_value}
+use Rattle.evm_scene.proofs.Views.{stands_at, dim_is, input_at, is_given}
 
-box_refusal : (edit : BoxEdit) (scene : Scene) (name : List ℕ) (nums : List ℤ) → refusal scene (edit_by edit name nums) ≡ first_cause (box_causes scene name nums)
+box_refusal : (edit : BoxEdit) (scene : Scene) (name : List ℕ) (nums : List ℤ) → refusal scene (edit_by edit name nums) ≡ first_cause (box_causes scene name nums ++ value_causes (after scene (edit_by edit name nums)))
 box_refusal Toggle scene name nums = refl
 box_refusal Add scene name nums = refl
 box_refusal Cut scene name nums = refl
@@ -28,14 +31,17 @@ box_after Add scene name nums = refl
 box_after Cut scene name nums = refl
 
 -- the causes at a node
-abbrev box_code : Bool → Bool → Bool → Option Code
-box_code made sized fits = first_cause ((made, Kind) ∷ (not sized, Dim) ∷ (not fits, Range) ∷ [])
+abbrev box_code : Bool → Bool → Bool → Scene → Option Code
+box_code made sized fits left = first_cause ((made, Kind) ∷ (not sized, Dim) ∷ (not fits, Range) ∷ value_causes left)
 
 module _ (edit : BoxEdit) (t : Table) (name : List ℕ) (nums : List ℤ) where
+  abbrev left : Scene
+  left = after (scene_of t) (edit_by edit name nums)
+
   pub absent : node_at t name ≡ None → refusal (scene_of t) (edit_by edit name nums) ≡ Some Name
   absent at =
       box_refusal edit (scene_of t) name nums
-      ∙ ap (λ (b : Bool). first_cause ((not b, Name) ∷ (not (is_input (scene_of t) name), Kind) ∷ (not (length nums == 2 * dim_of (scene_of t) name), Dim) ∷ (not (box_fits (low_of (dim_of (scene_of t) name) nums) (high_of (dim_of (scene_of t) name) nums)), Range) ∷ []))
+      ∙ ap (λ (b : Bool). first_cause ((not b, Name) ∷ (not (is_input (scene_of t) name), Kind) ∷ (not (length nums == 2 * dim_of (scene_of t) name), Dim) ∷ (not (box_fits (low_of (dim_of (scene_of t) name) nums) (high_of (dim_of (scene_of t) name) nums)), Range) ∷ value_causes left))
       (stands_at t name ∙ ap (λ (o : Option Node). is_some o) at)
 
   module _ (n : Node) (at : node_at t name ≡ Some n) where
@@ -52,12 +58,12 @@ module _ (edit : BoxEdit) (t : Table) (name : List ℕ) (nums : List ℤ) where
     twice true = refl
     twice false = refl
 
-    code_at : (m d r : Bool) → is_some n.formula ≡ m → (length nums == 2 * n.dim) ≡ d → box_fits (low_of n.dim nums) (high_of n.dim nums) ≡ r → refusal (scene_of t) (edit_by edit name nums) ≡ box_code m d r
+    code_at : (m d r : Bool) → is_some n.formula ≡ m → (length nums == 2 * n.dim) ≡ d → box_fits (low_of n.dim nums) (high_of n.dim nums) ≡ r → refusal (scene_of t) (edit_by edit name nums) ≡ box_code m d r left
     code_at m d r p q o =
         box_refusal edit (scene_of t) name nums
-        ∙ (λ i. first_cause ((not (there i), Name) ∷ (not (given i), Kind) ∷ (not (length nums == 2 * wide i), Dim) ∷ (not (box_fits (low_of (wide i) nums) (high_of (wide i) nums)), Range) ∷ []))
-        ∙ (λ i. first_cause ((twice (is_some n.formula) i, Kind) ∷ (not (q i), Dim) ∷ (not (o i), Range) ∷ []))
-        ∙ ap (λ (b : Bool). box_code b d r) p
+        ∙ (λ i. first_cause ((not (there i), Name) ∷ (not (given i), Kind) ∷ (not (length nums == 2 * wide i), Dim) ∷ (not (box_fits (low_of (wide i) nums) (high_of (wide i) nums)), Range) ∷ value_causes left))
+        ∙ (λ i. first_cause ((twice (is_some n.formula) i, Kind) ∷ (not (q i), Dim) ∷ (not (o i), Range) ∷ value_causes left))
+        ∙ ap (λ (b : Bool). box_code b d r left) p
 
     pub formula_refused : is_some n.formula ≡ true → refusal (scene_of t) (edit_by edit name nums) ≡ Some Kind
     formula_refused p = code_at true (length nums == 2 * n.dim) (box_fits (low_of n.dim nums) (high_of n.dim nums)) p refl refl
@@ -75,17 +81,31 @@ module _ (edit : BoxEdit) (t : Table) (name : List ℕ) (nums : List ℤ) where
     box_refused p q why.Range h = code_at false true false p q h
     box_refused p q why.NoMemory h = tt
 
-    pub plan : (order : List (List ℕ)) (made : Vertices) (c : Change) → IsKept t order → is_some n.formula ≡ false → (length nums == 2 * n.dim) ≡ true → MakesBox (Ok made) n.dim nums
+    pub plan : (made : Vertices) (c : Change) → ((x : List ℕ) → kept t x ≡ value (scene_of t) x) → is_some n.formula ≡ false → (length nums == 2 * n.dim) ≡ true → MakesBox (Ok made) n.dim nums
         → figure_of c.after ≡ figure_by edit (figure_of n.solid) (figure_of made) → IsChange (Some c) (figure_of n.solid) → IsPlanned t name (edit_by edit name nums) c
-    plan order made c k p q box e h = record {
+    plan made c values p q box e h = record {
       stands = ap (λ (o : Option Node). is_some o) at;
       input = ap is_made at ∙ p;
       change = subst (λ (o : Option Node). IsChange (Some c) (node_figure o)) (sym at) h;
-      fine = code_at false true true p q box.0;
+      only = code_at false true true p q box.0;
       after =
           ap (with_figure (scene_of t) name)
           (e ∙ ap (figure_by edit (figure_of n.solid)) box.1
-          ∙ ap (λ (f : Figure). figure_by edit f (box_at n.dim nums)) (ap node_figure (sym at) ∙ kept_is_value t order k name)
+          ∙ ap (λ (f : Figure). figure_by edit f (box_at n.dim nums)) (ap node_figure (sym at) ∙ values name)
           ∙ ap (λ (m : ℕ). figure_by edit (value (scene_of t) name) (box_at m nums)) (sym wide))
           ∙ sym (box_after edit (scene_of t) name nums);
     }
+
+-- an edit that was planned, and made, or refused by the scene that it would leave
+module _ (t u : Table) (name : List ℕ) (edit : Edit) (c : Change) (p : IsPlanned t name edit c) where
+  refused_by : (b : Bool) → all_stay (with_figure (scene_of t) name (figure_of c.after)) ≡ b → refusal (scene_of t) edit ≡ first_cause ((not b, Range) ∷ [])
+  refused_by b h = p.only ∙ ap (λ (v : Bool). first_cause ((not v, Range) ∷ [])) (ap (λ (s : Scene). all_stay s) (sym p.after) ∙ h)
+
+  pub planned_done : (n : ℕ) → all_stay (with_figure (scene_of t) name (figure_of c.after)) ≡ true → scene_of u ≡ with_figure (scene_of t) name (figure_of c.after)
+      → n ≡ changed_names (scene_of t) (scene_of u) → (refusal (scene_of t) edit ≡ None) × (scene_of u ≡ after (scene_of t) edit) × (n ≡ changed (scene_of t) edit)
+  planned_done n stay shown count = (refused_by true stay, shown ∙ p.after, count ∙ ap (λ (s : Scene). changed_names (scene_of t) s) (shown ∙ p.after))
+
+  pub planned_failed : (e : DeltaError) → (e ≡ errors.Range → all_stay (with_figure (scene_of t) name (figure_of c.after)) ≡ false) → u ≡ t
+      → Applies (Err (of_delta_error e)) (scene_of t) (scene_of u) edit
+  planned_failed errors.Range h same = (refused_by false (h refl), ap (λ (v : Table). scene_of v) same)
+  planned_failed errors.NoMemory h same = ap (λ (v : Table). scene_of v) same

@@ -3,23 +3,23 @@ use Rattle.std.proofs.Common.{◌≡◌, ℕ, Bool, true, false, cond, ◌||◌,
 use Rattle.evm_script.specs.declared.formula.Formula.{Formula}
 use Rattle.evm_model.specs.Figures.{Figure}
 use Rattle.evm_model.specs.Orders.{is_among, AllSeen, Ordered}
-use Rattle.evm_model.specs.Scene.{operands, formula_value, is_dim}
+use Rattle.evm_model.specs.Scene.{operands, formula_value, formula_stays, is_dim}
 use Rattle.evm_model.proofs.Names.{same_name, name_itself}
-use Rattle.evm_model.proofs.Levels.{formula_same}
+use Rattle.evm_model.proofs.Levels.{formula_same, formula_stays_same}
 use Rattle.evm_scene.specs.declared.node.Node.{Node}
 use Rattle.evm_scene.specs.declared.node.Change.{Change}
-use Rattle.evm_scene.specs.Tables.{Table, figure_of, node_at, node_reads, made_reads, reads_at, node_value, node_figure, kept, node_dim, dim_at, FormulaSized, MadeSized, NodeSized}
+use Rattle.evm_scene.specs.Tables.{Table, figure_of, node_at, node_reads, made_reads, reads_at, node_value, made_stays, node_stays, node_figure, kept, node_dim, dim_at, FormulaSized, MadeSized, NodeSized}
 use Rattle.evm_scene.specs.Orders.{IsKept, Parted}
 use Rattle.evm_scene.specs.Changes.{Pending, change_at, after_of, moved, moved_node, IsChange, IsCarried}
-use Rattle.evm_scene.proofs.Views.{value_same, operand_stands, node_formula}
-use Rattle.evm_scene.proofs.Kepts.{reads_moved, dim_moved, some_moved, solid_moved, sized_moved, fixed_moved, value_formula}
+use Rattle.evm_scene.proofs.Views.{value_same, stays_same, operand_stands, node_formula}
+use Rattle.evm_scene.proofs.Kepts.{stays_moved, reads_moved, dim_moved, some_moved, solid_moved, sized_moved, fixed_moved, value_formula}
 use Rattle.evm_scene.proofs.Parts.{new_order, new_whole, new_size, reads_front}
 
 module _ (t u : Table) (order front reach : List (List ℕ)) (name : List ℕ) (f : Formula) (new : Node) (old p : Pending)
     (before : IsKept t order) (parted : Parted (reads_at t) order name front reach [])
     (carried : IsCarried t front name old p)
     (here : node_at u name ≡ Some new) (formula : new.formula ≡ Some f) (dim : new.dim ≡ dim_at t name)
-    (solid : figure_of new.solid ≡ moved t p name) (value : moved t p name ≡ formula_value f (kept t))
+    (solid : figure_of new.solid ≡ moved t p name) (value : moved t p name ≡ formula_value f (kept t)) (stay : formula_stays f (kept t) ≡ true)
     (fits : FormulaSized (dim_at t name) f (dim_at t))
     (places : (x : List ℕ) → bytes_eq x name ≡ false → node_at u x ≡ moved_node (node_at t x) (change_at p x))
     (size : length u ≡ length t) (stands : is_some (node_at t name) ≡ true)
@@ -77,6 +77,14 @@ module _ (t u : Table) (order front reach : List (List ℕ)) (name : List ℕ) (
       subst (λ n. node_figure n ≡ node_value n (kept u)) (sym (places x d))
       (fixed_moved (node_at t x) (change_at p x) (kept u) (by_formula x d))
 
+  stays_at : (x : List ℕ) (b : Bool) → bytes_eq x name ≡ b → node_stays (node_at u x) (kept u) ≡ true
+  stays_at x true d =
+      subst (λ k. node_stays (node_at u k) (kept u) ≡ true) (sym (same_name x name d))
+      (ap (λ n. node_stays n (kept u)) here ∙ ap (λ m. made_stays m (kept u)) formula ∙ sym (formula_stays_same f (kept t) (kept u) still) ∙ stay)
+  stays_at x false d =
+      ap (λ n. node_stays n (kept u)) (places x d) ∙ stays_moved (node_at t x) (change_at p x) (kept u)
+      ∙ sym (stays_same (node_at t x) (moved t p) (kept u) (λ o r. redefined_values o (operand_stands t order before x o r))) ∙ carried.stays x d
+
   sized_own : (c : Option Change) → IsChange c (kept t name) → figure_of new.solid ≡ after_of c (kept t name) → (kept t name).dim ≡ dim_at t name → new.solid.dim ≡ new.dim
   sized_own None g e k = ap (λ (s : Figure). s.dim) e ∙ k ∙ sym dim
   sized_own (Some c) g e k = ap (λ (s : Figure). s.dim) e ∙ g.1 ∙ k ∙ sym dim
@@ -114,4 +122,5 @@ module _ (t u : Table) (order front reach : List (List ℕ)) (name : List ℕ) (
     size = new_size (reads_at t) (reads_at u) order name front reach parted other_reads stand free_own ∙ before.size ∙ sym size;
     sized = λ x. subst (λ d. NodeSized (node_at u x) d) dims (sized_at x (bytes_eq x name) refl);
     fixed = λ x. fixed_at x (bytes_eq x name) refl;
+    stays = λ x. stays_at x (bytes_eq x name) refl;
   }

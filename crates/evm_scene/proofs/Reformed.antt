@@ -3,22 +3,30 @@ use Rattle.std.proofs.Common.{◌≡◌, ℕ, ◌==◌, Bool, true, false, not, 
 use Rattle.std.specs.Prelude.{option_map}
 use Rattle.std.specs.List.{list_any, IsDistinct}
 use Rattle.std.specs.Map.{keys_of}
+use Rattle.evm_delta.specs.declared.shapes.DeltaError.{DeltaError}
+use Rattle.evm_delta.specs.declared.shapes.DeltaError.TheVariants as errors
+use Rattle.evm_rows.specs.Rows.{Vertices}
 use Rattle.evm_script.specs.declared.formula.Formula.{Formula}
+use Rattle.evm_model.specs.Figures.{Figure}
 use Rattle.evm_model.specs.Orders.{is_among}
-use Rattle.evm_model.specs.Scene.{Scene, Entry, What, Made, stands, is_input, dim_of, operands, formula_dim, formula_fits, formula_in_range, with_entry, with_new, with_formula}
+use Rattle.evm_model.specs.Scene.{Scene, Entry, What, Made, stands, is_input, dim_of, operands, formula_dim, formula_fits, formula_in_range, formula_value, formula_stays, all_stay, names_differ, with_entry, with_new, with_formula}
 use Rattle.evm_model.specs.Edits as model
 use Rattle.evm_model.specs.Edits.{lacks_operand, closes_cycle, misses_dim, changed_names}
 use Rattle.evm_model.proofs.Names.{by_name, or_right}
+use Rattle.evm_model.proofs.Lookups.{differ_with}
 use Rattle.evm_scene.specs.declared.edit.Refusal.{Refusal}
 use Rattle.evm_scene.specs.declared.edit.Refusal.TheVariants.{Name, Taken, Kind, Used, Cycle, Dim, Range, NoMemory}
 use Rattle.evm_scene.specs.declared.node.Node.{Node}
-use Rattle.evm_scene.specs.Tables.{Table, node_at, reads_at, dim_at, is_made, entries_of, scene_of}
+use Rattle.evm_scene.specs.Tables.{Table, figure_of, node_at, reads_at, kept, dim_at, is_made, entries_of, scene_of}
 use Rattle.evm_scene.specs.Orders.{IsKept, meets, Parted}
 use Rattle.evm_scene.specs.Changes.{Pending, IsRedefined, IsInstalled}
 use Rattle.evm_scene.specs.Applied.{Applies}
+use Rattle.evm_scene.specs.Refused.{of_delta_error}
 use Rattle.evm_scene.specs.Definitions.{IsFree}
 use Rattle.evm_scene.proofs.Views.{stands_at, dim_is, input_at, is_given}
 use Rattle.evm_scene.proofs.Causes.{other_stands, sized_in, not_refused}
+use Rattle.evm_scene.proofs.Wells.{entries_apart, well_kept, shown_stay}
+use Rattle.evm_scene.proofs.Stuck.{left_is}
 use Rattle.evm_scene.proofs.Installed.{installed_kept, installed_view, installed_count, cycle_is}
 
 -- a refusal by a cycle
@@ -32,6 +40,11 @@ unfree Cycle t order name f edit h k = (k h, refl)
 unfree Dim t order name f edit h k = absurd h
 unfree Range t order name f edit h k = absurd h
 unfree NoMemory t order name f edit h k = refl
+
+-- a refusal by a formula that moves a cell out of the limits
+pub unmoved : (e : DeltaError) (s : Scene) (edit : model.Edit) → (e ≡ errors.Range → model.refusal s edit ≡ Some model.Range) → Applies (Err (of_delta_error e)) s s edit
+unmoved errors.Range s edit h = (h refl, refl)
+unmoved errors.NoMemory s edit h = refl
 
 -- what is a formula stands and is no input
 pub made_stands : (t : Table) (name : List ℕ) → is_made (node_at t name) ≡ true → is_some (node_at t name) ≡ true
@@ -57,14 +70,17 @@ operands_present t name f standing full o m =
     (λ d. sym (stands_at t o) ∙ other_stands (scene_of t) name f full o m d)
 
 -- the lists as the code passes them on
-module _ (t u : Table) (order o2 front reach whole : List (List ℕ)) (name : List ℕ) (f : Formula) (p : Pending) (n dim : ℕ)
+module _ (t u : Table) (order o2 front reach whole : List (List ℕ)) (name : List ℕ) (f : Formula) (p : Pending) (n dim : ℕ) (solid : Vertices)
     (before : IsKept t order) (eo : o2 ≡ order) (parted : Parted (reads_at t) o2 name front reach [])
-    (redefined : IsRedefined t front name f p) (installed : IsInstalled t u name f p n)
+    (redefined : IsRedefined t front name (figure_of solid) p) (value : figure_of solid ≡ formula_value f (kept t)) (stay : formula_stays f (kept t) ≡ true) (installed : IsInstalled t u name f p n)
     (made : is_made (node_at t name) ≡ true) (full : lacks_operand (scene_of t) name f ≡ false)
     (open_end : closes_cycle (scene_of t) name f ≡ false) (hit : misses_dim (scene_of t) name f ≡ false)
     (fits : formula_fits (scene_of t) f ≡ true) (stated : dim ≡ formula_dim (scene_of t) f) (same : dim ≡ dim_of (scene_of t) name) (range : formula_in_range (scene_of t) f ≡ true) where
   parted_here : Parted (reads_at t) order name front reach []
   parted_here = subst (λ l. Parted (reads_at t) l name front reach []) eo parted
+
+  redefined_here : IsRedefined t front name (formula_value f (kept t)) p
+  redefined_here = subst (λ (g : Figure). IsRedefined t front name g p) value redefined
 
   standing : is_some (node_at t name) ≡ true
   standing = made_stands t name made
@@ -81,7 +97,7 @@ module _ (t u : Table) (order o2 front reach whole : List (List ℕ)) (name : Li
   pub end_kept : whole ≡ front ++ reach → IsKept u whole
   end_kept e =
       subst (λ l. IsKept u l) (sym e)
-      (installed_kept t u order front reach name f p n before parted_here redefined installed (sized_in t f (dim_at t name) own_dim fits range) standing present miss)
+      (installed_kept t u order front reach name f p n before parted_here redefined_here stay installed (sized_in t f (dim_at t name) own_dim fits range) standing present miss)
 
   -- the scene with the formula in the name's place
   abbrev stood : ℕ → List Entry
@@ -90,15 +106,24 @@ module _ (t u : Table) (order o2 front reach whole : List (List ℕ)) (name : Li
   end_view : scene_of u ≡ with_formula (scene_of t) name f
   end_view =
       ap (λ (es : List Entry). record { entries = es })
-      (installed_view t u order front reach name f p n before parted_here redefined installed (sized_in t f (dim_at t name) own_dim fits range) standing present miss ∙ ap stood own_dim)
+      (installed_view t u order front reach name f p n before parted_here redefined_here stay installed (sized_in t f (dim_at t name) own_dim fits range) standing present miss ∙ ap stood own_dim)
       ∙ sym (ap (λ (b : Bool). cond {A = Scene} b (record { entries = stood (formula_dim (scene_of t) f) }) (with_new (scene_of t) name (formula_dim (scene_of t) f) (Made f))) (stands_at t name ∙ standing))
+
+  -- no formula moves a cell out of the limits there
+  end_stay : IsDistinct bytes_eq (keys_of t) → all_stay (with_formula (scene_of t) name f) ≡ true
+  end_stay names =
+      shown_stay u (front ++ reach) (with_formula (scene_of t) name f)
+      (installed_kept t u order front reach name f p n before parted_here redefined_here stay installed (sized_in t f (dim_at t name) own_dim fits range) standing present miss)
+      end_view
+      (ap (λ (s : Scene). names_differ s.entries) (left_is t order name f before (well_kept t order before names) standing present open_end)
+      ∙ differ_with (entries_of t) name (record { name = name; dim = formula_dim (scene_of t) f; what = Made f }) refl (entries_apart t names))
 
   pub end_applies : IsDistinct bytes_eq (keys_of t)
       → (model.refusal (scene_of t) (model.Def name f) ≡ None) × (scene_of u ≡ model.after (scene_of t) (model.Def name f)) × (n ≡ model.changed (scene_of t) (model.Def name f))
   end_applies names = (
-    not_refused (scene_of t) name f full (made_no_input t name made) open_end hit range,
+    not_refused (scene_of t) name f full (made_no_input t name made) open_end hit range (end_stay names),
     end_view,
-    installed_count t u order front reach name f p n before parted_here redefined installed (sized_in t f (dim_at t name) own_dim fits range) standing present miss names
+    installed_count t u order front reach name f p n before parted_here redefined_here stay installed (sized_in t f (dim_at t name) own_dim fits range) standing present miss names
         ∙ ap (λ (s : Scene). changed_names (scene_of t) s) end_view,
   )
 

@@ -11,9 +11,9 @@ use Rattle.evm_model.proofs.Counts.{AllDiffer, same_length, ordered_differ}
 use Rattle.evm_model.proofs.WellEdits.{unread}
 use Rattle.evm_model.proofs.ChangeLaws.{drop_gone}
 use Rattle.evm_scene.specs.declared.node.Node.{Node}
-use Rattle.evm_scene.specs.Tables.{Table, figure_of, node_at, node_reads, reads_at, node_value, node_figure, kept, node_dim, dim_at, NodeSized, entry_view, entries_of, scene_of}
+use Rattle.evm_scene.specs.Tables.{Table, figure_of, node_at, node_reads, reads_at, node_value, node_stays, node_figure, kept, node_dim, dim_at, NodeSized, entry_view, entries_of, scene_of}
 use Rattle.evm_scene.specs.Orders.{IsKept, is_other}
-use Rattle.evm_scene.proofs.Views.{value_same, stands_at, operands_at}
+use Rattle.evm_scene.proofs.Views.{value_same, stays_same, stands_at, operands_at}
 use Rattle.evm_scene.proofs.NewLast.{node_sized}
 use Rattle.evm_scene.proofs.Unread.{none_changed}
 
@@ -84,6 +84,13 @@ module _ (t u : Table) (order : List (List ℕ)) (name : List ℕ) (before : IsK
       (λ d. subst (λ n. node_figure n ≡ node_value n (kept u)) (sym (else_at x d))
       (before.fixed x ∙ value_same (node_at t x) (kept t) (kept u) (λ o m. ap node_figure (sym (else_at o (read_other x o m))))))
 
+  stays_at : (x : List ℕ) → node_stays (node_at u x) (kept u) ≡ true
+  stays_at x =
+      by_name x name
+      (λ e. ap (λ n. node_stays n (kept u)) (ap (node_at u) e ∙ gone))
+      (λ d. ap (λ n. node_stays n (kept u)) (else_at x d)
+      ∙ sym (stays_same (node_at t x) (kept t) (kept u) (λ o m. ap node_figure (sym (else_at o (read_other x o m))))) ∙ before.stays x)
+
   sized_at : (x : List ℕ) → NodeSized (node_at u x) (dim_at u)
   sized_at x =
       by_name x name
@@ -92,7 +99,7 @@ module _ (t u : Table) (order : List (List ℕ)) (name : List ℕ) (before : IsK
       (node_sized (node_at t x) (dim_at t) (dim_at u) (λ o m. ap node_dim (sym (else_at o (read_other x o m)))) (before.sized x)))
 
   pub kept_without : IsKept u rest
-  kept_without = record { ordered = rest_order; whole = rest_whole; size = omega (arith, size, before.size, one_less); sized = sized_at; fixed = fixed_at }
+  kept_without = record { ordered = rest_order; whole = rest_whole; size = omega (arith, size, before.size, one_less); sized = sized_at; fixed = fixed_at; stays = stays_at }
 
 pub less_by : (n m : ℕ) (b : Bool) → n + cond b 1 0 ≡ m → b ≡ true → n + 1 ≡ m
 less_by n m true e h = e

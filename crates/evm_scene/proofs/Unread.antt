@@ -13,7 +13,8 @@ use Rattle.evm_model.proofs.FigureLaws.{same_itself}
 use Rattle.evm_model.proofs.WellScenes.{all_entries, well_operands}
 use Rattle.evm_model.proofs.WellEdits.{unread}
 use Rattle.evm_model.proofs.EditLaws.{others_stay}
-use Rattle.evm_model.proofs.ChangeLaws.{drop_gone, unread_unreached}
+use Rattle.evm_model.proofs.ChangeLaws.{drop_gone}
+use Rattle.evm_model.proofs.Stays.{unread_unreached}
 use Rattle.evm_scene.specs.declared.node.Node.{Node}
 use Rattle.evm_scene.specs.Tables.{Table, figure_of, node_at, node_reads, reads_at, node_value, node_figure, kept, node_dim, dim_at, NodeSized, entries_of, scene_of}
 use Rattle.evm_scene.specs.Orders.{IsKept, is_other}

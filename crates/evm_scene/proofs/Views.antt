@@ -8,10 +8,10 @@ use Rattle.evm_model.specs.Figures.{Figure}
 use Rattle.evm_model.specs.Orders.{is_among, AllSeen, Ordered}
 use Rattle.evm_model.specs.Scene.{Scene, Entry, What, Given, Made, entry_of, stands, dim_of, dim_of_entry, is_input, entry_is_given, what_is_given, entry_operands, what_operands, operands_of, entry_value, what_value, value, reaches, with_entry, without_entry}
 use Rattle.evm_model.proofs.Names.{same_name, name_itself}
-use Rattle.evm_model.proofs.Levels.{value_unique, reach_found, operands_stand, formula_same}
+use Rattle.evm_model.proofs.Levels.{value_unique, reach_found, operands_stand, formula_same, formula_stays_same}
 use Rattle.evm_scene.specs.declared.node.Node.{Node}
 use Rattle.evm_scene.specs.declared.node.Change.{Change}
-use Rattle.evm_scene.specs.Tables.{Table, figure_of, node_at, made_reads, node_reads, reads_at, made_value, node_value, node_figure, kept, node_dim, dim_at, is_made, NodeSized, put_solid, with_solid, put_made, with_made, what_of, entry_view, entries_of, scene_of}
+use Rattle.evm_scene.specs.Tables.{Table, figure_of, node_at, made_reads, node_reads, reads_at, made_value, node_value, made_stays, node_stays, node_figure, kept, node_dim, dim_at, is_made, NodeSized, put_solid, with_solid, put_made, with_made, what_of, entry_view, entries_of, scene_of}
 use Rattle.evm_scene.specs.Changes.{Pending, change_at, put_all}
 use Rattle.evm_scene.specs.Orders.{IsKept, meets}
 use Rattle.evm_scene.specs.Shown.{name_of_entry, what_formula, entry_formula}
@@ -154,6 +154,15 @@ value_same (Some n) g h same = by n.formula same
     by : (m : Option Formula) → ((o : List ℕ) → is_among o (made_reads m) ≡ true → g o ≡ h o) → made_value (figure_of n.solid) m g ≡ made_value (figure_of n.solid) m h
     by None k = refl
     by (Some f) k = formula_same f g h k
+
+-- and so does whether it moves a cell out of the limits
+pub stays_same : (n : Option Node) (g h : List ℕ → Figure) → ((o : List ℕ) → is_among o (node_reads n) ≡ true → g o ≡ h o) → node_stays n g ≡ node_stays n h
+stays_same None g h same = refl
+stays_same (Some n) g h same = by n.formula same
+  where
+    by : (m : Option Formula) → ((o : List ℕ) → is_among o (made_reads m) ≡ true → g o ≡ h o) → made_stays m g ≡ made_stays m h
+    by None k = refl
+    by (Some f) k = formula_stays_same f g h k
 
 same_some : (a b : Node) → Some a ≡ Some b → a ≡ b
 same_some a b h = cc

@@ -8,9 +8,9 @@ use Rattle.evm_model.proofs.Names.{same_name, equal_names, different_names, name
 use Rattle.evm_model.proofs.Levels.{ordered_reads}
 use Rattle.evm_scene.specs.declared.node.Node.{Node}
 use Rattle.evm_scene.specs.declared.node.Change.{Change}
-use Rattle.evm_scene.specs.Tables.{Table, node_at, reads_at, node_value, node_figure, kept}
-use Rattle.evm_scene.specs.Changes.{Pending, change_at, moved, after_of, IsChange, MovesNode, IsCarried, IsCarriedTo}
-use Rattle.evm_scene.proofs.Views.{value_same}
+use Rattle.evm_scene.specs.Tables.{Table, node_at, reads_at, node_value, node_stays, node_figure, kept}
+use Rattle.evm_scene.specs.Changes.{Pending, change_at, moved, after_of, IsChange, MovesNode, IsCarried, IsCarriedTo, IsHalted}
+use Rattle.evm_scene.proofs.Views.{value_same, stays_same}
 
 pub record Walk (t : Table) (front : List (List ℕ)) (name : List ℕ) (old p : Pending) (rest : List (List ℕ)) : Type 0 where
   pub seen : List (List ℕ)
@@ -20,6 +20,7 @@ pub record Walk (t : Table) (front : List (List ℕ)) (name : List ℕ) (old p :
   pub fresh : (x : List ℕ) → is_among x seen ≡ false → change_at p x ≡ None
   pub closed : (x : List ℕ) → is_among x seen ≡ true → bytes_eq x name ≡ false → AllSeen seen (reads_at t x)
   pub fixed : (x : List ℕ) → is_among x seen ≡ true → bytes_eq x name ≡ false → moved t p x ≡ node_value (node_at t x) (moved t p)
+  pub stays : (x : List ℕ) → is_among x seen ≡ true → bytes_eq x name ≡ false → node_stays (node_at t x) (moved t p) ≡ true
   pub all : (x : List ℕ) → is_some (node_at t x) ≡ true → is_among x seen ≡ false → is_among x rest ≡ true
   pub seed : change_at p name ≡ change_at old name
   pub change : (x : List ℕ) → IsChange (change_at p x) (kept t x)
@@ -30,6 +31,7 @@ module _ (t : Table) (front : List (List ℕ)) (name : List ℕ) (old p q : Pend
     (w : Walk t front name old p (x ∷ rest))
     (put : (y : List ℕ) → change_at q y ≡ cond (bytes_eq x y) c (change_at p y))
     (after : after_of c (kept t x) ≡ node_value (node_at t x) (moved t p))
+    (stay : node_stays (node_at t x) (moved t p) ≡ true)
     (change : IsChange c (kept t x)) (moves : MovesNode c (node_at t x)) where
   new : is_among x w.seen ≡ false
   new = w.left.0
@@ -70,6 +72,14 @@ module _ (t : Table) (front : List (List ℕ)) (name : List ℕ) (old p q : Pend
       sym (moved_seen y seen_y) ∙ w.fixed y seen_y other
       ∙ value_same (node_at t y) (moved t p) (moved t q) (λ o r. moved_seen o (w.closed y seen_y other o r))
 
+  at_stays : (y : List ℕ) (b : Bool) → bytes_eq y x ≡ b → is_among y (x ∷ w.seen) ≡ true → bytes_eq y name ≡ false → node_stays (node_at t y) (moved t q) ≡ true
+  at_stays y true e there other =
+      subst (λ k. node_stays (node_at t k) (moved t q) ≡ true) (sym (same_name y x e))
+      (sym (stays_same (node_at t x) (moved t p) (moved t q) (λ o r. moved_seen o (w.left.1 o r))) ∙ stay)
+  at_stays y false e there other =
+      let seen_y : is_among y w.seen ≡ true = sym (ap (λ b. b || is_among y w.seen) e) ∙ there in
+      sym (stays_same (node_at t y) (moved t p) (moved t q) (λ o r. moved_seen o (w.closed y seen_y other o r))) ∙ w.stays y seen_y other
+
   at_fresh : (y : List ℕ) → is_among y (x ∷ w.seen) ≡ false → change_at q y ≡ None
   at_fresh y out =
       let parts = or_none (bytes_eq y x) (is_among y w.seen) out in
@@ -89,6 +99,7 @@ module _ (t : Table) (front : List (List ℕ)) (name : List ℕ) (old p q : Pend
     fresh = at_fresh;
     closed = λ y h other. at_closed y (bytes_eq y x) refl h other;
     fixed = λ y h other. at_fixed y (bytes_eq y x) refl h other;
+    stays = λ y h other. at_stays y (bytes_eq y x) refl h other;
     all = at_all;
     seed = else_seen name w.named ∙ w.seed;
     change = λ y. at_change y (bytes_eq x y) refl;
@@ -98,6 +109,7 @@ module _ (t : Table) (front : List (List ℕ)) (name : List ℕ) (old p q : Pend
 -- the walk's start: just the name that is edited has a change
 module _ (t : Table) (front : List (List ℕ)) (name : List ℕ) (p : Pending) (later : List (List ℕ))
     (kept_fixed : (x : List ℕ) → kept t x ≡ node_value (node_at t x) (kept t))
+    (kept_stays : (x : List ℕ) → node_stays (node_at t x) (kept t) ≡ true)
     (ordered : Ordered (reads_at t) [] front) (alone : is_among name front ≡ false)
     (left : Ordered (reads_at t) (name ∷ front) later)
     (whole : (x : List ℕ) → is_some (node_at t x) ≡ true → is_among x (name ∷ front) ≡ false → is_among x later ≡ true)
@@ -129,6 +141,7 @@ module _ (t : Table) (front : List (List ℕ)) (name : List ℕ) (p : Pending) (
     closed = λ x there other o r. among_later o name front (front_reads x there other o r);
     fixed = λ x there other. still x other ∙ kept_fixed x
         ∙ value_same (node_at t x) (kept t) (moved t p) (λ o r. sym (still o (front_other o (front_reads x there other o r))));
+    stays = λ x there other. sym (stays_same (node_at t x) (kept t) (moved t p) (λ o r. sym (still o (front_other o (front_reads x there other o r))))) ∙ kept_stays x;
     all = whole;
     seed = refl;
     change = λ x. start_change x (bytes_eq x name) refl;
@@ -143,6 +156,7 @@ module _ (t : Table) (front : List (List ℕ)) (name : List ℕ) (p : Pending) (
   pub carried_still : moved t p name ≡ kept t name → IsCarried t front name p p
   carried_still own = record {
     fixed = λ x other. still x other ∙ kept_fixed x ∙ value_same (node_at t x) (kept t) (moved t p) (λ o r. sym (stays_at own o (bytes_eq o name) refl));
+    stays = λ x other. sym (stays_same (node_at t x) (kept t) (moved t p) (λ o r. sym (stays_at own o (bytes_eq o name) refl))) ∙ kept_stays x;
     early = λ x h. others x (front_other x h);
     seed = refl;
     change = λ x. start_change x (bytes_eq x name) refl;
@@ -169,16 +183,38 @@ module _ (t : Table) (front : List (List ℕ)) (name : List ℕ) (old p : Pendin
       by true e = w.fixed x e other
       by false e = ap (λ o. after_of o (kept t x)) (w.fresh x e) ∙ ap node_figure (unseen x e) ∙ sym (ap (λ n. node_value n (moved t p)) (unseen x e))
 
+  pub walk_stays : (x : List ℕ) → bytes_eq x name ≡ false → node_stays (node_at t x) (moved t p) ≡ true
+  walk_stays x other = by (is_among x w.seen) refl
+    where
+      by : (b : Bool) → is_among x w.seen ≡ b → node_stays (node_at t x) (moved t p) ≡ true
+      by true e = w.stays x e other
+      by false e = ap (λ n. node_stays n (moved t p)) (unseen x e)
+
 module _ (t : Table) (front : List (List ℕ)) (name : List ℕ) (old p q : Pending) (x : List ℕ) (rest : List (List ℕ)) where
   pub walk_to : Walk t front name old p (x ∷ rest) → IsCarriedTo t x p q → Walk t front name old q rest
-  walk_to w h = walk_step t front name old p q x rest h.made w h.put h.after h.change h.moves
+  walk_to w h = walk_step t front name old p q x rest h.made w h.put h.after h.stays h.change h.moves
 
   pub walk_new : Walk t front name old p (x ∷ rest) → change_at p x ≡ None
   walk_new w = w.fresh x w.left.0
 
+  -- where the next name's formula moves a cell out of the limits, the walk ends
+  pub walk_halted : Walk t front name old p (x ∷ rest) → node_stays (node_at t x) (moved t p) ≡ false → IsHalted t name old
+  walk_halted w out = record {
+    pending = p;
+    seen = w.seen;
+    last = x;
+    seed = w.seed;
+    closed = w.closed;
+    fixed = w.fixed;
+    other = apart x name w.seen w.left.0 w.named;
+    reads = w.left.1;
+    out = out;
+  }
+
 pub walk_end : (t : Table) (front : List (List ℕ)) (name : List ℕ) (old p : Pending) → Walk t front name old p [] → IsCarried t front name old p
 walk_end t front name old p w = record {
   fixed = walk_fixed t front name old p w;
+  stays = walk_stays t front name old p w;
   early = λ x h. (w.first x h).1;
   seed = w.seed;
   change = w.change;
@@ -207,6 +243,9 @@ module _ (t : Table) (front : List (List ℕ)) (name : List ℕ) (old p q : Pend
 
   pub walk_more : IsCarriedTo t x p q → Walk t front name old q (drop (i + 1) xs)
   walk_more h = walk_to t front name old p q x (drop (i + 1) xs) walk_at h
+
+  pub walk_halted_at : node_stays (node_at t x) (moved t p) ≡ false → IsHalted t name old
+  walk_halted_at out = walk_halted t front name old p q x (drop (i + 1) xs) walk_at out
 
 -- the walk is done past the end of the list
 pub walk_done : (t : Table) (front : List (List ℕ)) (name : List ℕ) (old p : Pending) (xs : List (List ℕ)) (i : ℕ) → length xs ≤ i → Walk t front name old p (drop i xs) → IsCarried t front name old p

@@ -8,16 +8,18 @@ use Rattle.evm_cells.specs.Vertices.{cells}
 use Rattle.evm_cells.proofs.Universe.{cell_set-cells}
 use Rattle.evm_cells.proofs.Xor.{and_both}
 use Rattle.evm_script.specs.declared.formula.Formula.{Formula}
-use Rattle.evm_script.specs.declared.formula.Formula.TheVariants.{Or, And, Sub, Xor, Box}
-use Rattle.evm_model.specs.Figures.{box_fits, low_of, high_of}
+use Rattle.evm_model.specs.Figures.{Figure, box_fits, low_of, high_of}
 use Rattle.evm_model.specs.Orders.{is_among}
-use Rattle.evm_model.specs.Scene.{Scene, Entry, What, Given, Made, has_name, entry_of, dim_of, is_dim, formula_dim, formula_fits, formula_in_range, names_differ, what_is_sound, IsWell}
+use Rattle.evm_model.specs.Scene.{Scene, Entry, What, Given, Made, has_name, entry_of, dim_of, is_dim, formula_dim, formula_fits, formula_in_range, names_differ, what_is_sound, what_stays, all_stay, value, with_figure, IsWell}
+use Rattle.evm_model.proofs.Lookups.{differ_with}
 use Rattle.evm_model.proofs.Counts.{AllDiffer, differ_distinct}
 use Rattle.evm_model.proofs.WellScenes.{all_entries, sound_made, sound_cells}
 use Rattle.evm_scene.specs.declared.node.Node.{Node}
-use Rattle.evm_scene.specs.Tables.{Table, node_at, dim_at, FormulaSized, MadeSized, NodeSized, what_of, entry_view, entries_of, scene_of}
+use Rattle.evm_scene.specs.Tables.{Table, node_at, dim_at, node_stays, kept, FormulaSized, MadeSized, NodeSized, what_of, entry_view, entries_of, scene_of}
 use Rattle.evm_scene.specs.Orders.{IsKept}
-use Rattle.evm_scene.proofs.Views.{entry_at, dim_is, entries_ordered, entries_whole, entries_size}
+use Rattle.evm_scene.proofs.FormulaLaws.{formula_sound}
+use Rattle.evm_scene.proofs.Views.{entry_at, dim_is, entries_ordered, entries_whole, entries_size, kept_is_value, stays_same}
+use Rattle.evm_scene.proofs.Halted.{node_shown_stays}
 
 -- the names of a table
 abbrev pub names_of : Table → List (List ℕ)
@@ -55,26 +57,22 @@ module _ (t : Table) (order : List (List ℕ)) (k : IsKept t order) where
   node_sized_at : (x : List ℕ) (n : Node) → node_at t x ≡ Some n → NodeSized (Some n) (dim_at t)
   node_sized_at x n at = subst (λ o. NodeSized o (dim_at t)) at (k.sized x)
 
-  both_sound : (n : ℕ) (a b : List ℕ) → (dim_at t a ≡ n) × (dim_at t b ≡ n) → ((dim_of (scene_of t) a == dim_of (scene_of t) b) ≡ true) × (dim_of (scene_of t) a ≡ n)
-  both_sound n a b h = ((Decides-eqb (dim_of (scene_of t) a) (dim_of (scene_of t) b)).1 (dim_is t a ∙ h.0 ∙ sym h.1 ∙ sym (dim_is t b)), dim_is t a ∙ h.0)
-
-  pub formula_sound : (n : ℕ) (f : Formula) → FormulaSized n f (dim_at t) → what_is_sound (scene_of t) n (Made f) ≡ true
-  formula_sound n (Or a b) h = let s = both_sound n a b h in sound_made (scene_of t) n (Or a b) s.0 refl s.1
-  formula_sound n (And a b) h = let s = both_sound n a b h in sound_made (scene_of t) n (And a b) s.0 refl s.1
-  formula_sound n (Sub a b) h = let s = both_sound n a b h in sound_made (scene_of t) n (Sub a b) s.0 refl s.1
-  formula_sound n (Xor a b) h = let s = both_sound n a b h in sound_made (scene_of t) n (Xor a b) s.0 refl s.1
-  formula_sound n (Box dim nums) h =
-      sound_made (scene_of t) n (Box dim nums)
-      (and_both (is_dim dim) (length nums == 2 * nat_abs dim) h.0 ((Decides-eqb (length nums) (2 * nat_abs dim)).1 (h.2 ∙ ap (λ (m : ℕ). 2 * m) (sym h.1))))
-      (subst (λ (m : ℕ). box_fits (low_of m nums) (high_of m nums) ≡ true) (sym h.1) h.3)
-      h.1
-
   node_sound : (x : List ℕ) (n : Node) → node_at t x ≡ Some n → what_is_sound (scene_of t) n.dim (what_of n.solid n.formula) ≡ true
   node_sound x n at = by n.formula refl (node_sized_at x n at)
     where
       by : (m : Option Formula) → n.formula ≡ m → NodeSized (Some n) (dim_at t) → what_is_sound (scene_of t) n.dim (what_of n.solid m) ≡ true
       by None e h = sound_cells n.dim (cells n.solid.dim n.solid.rows) (subst (λ (d : ℕ). IsCellSet d (cells n.solid.dim n.solid.rows)) h.1 (cell_set-cells n.solid.dim n.solid.rows))
-      by (Some f) e h = formula_sound n.dim f (subst (λ m. MadeSized n.dim m (dim_at t)) e h.2)
+      by (Some f) e h = formula_sound t n.dim h.0 f (subst (λ m. MadeSized n.dim m (dim_at t)) e h.2)
+
+  -- no formula moves a cell out of the limits
+  pub kept_stay : names_differ (entries_of t) ≡ true → all_stay (scene_of t) ≡ true
+  kept_stay differ =
+      all_entries (λ (e : Entry). what_stays e.what (value (scene_of t))) (entries_of t) differ
+      (by_node (λ e. what_stays e.what (value (scene_of t)) ≡ true) (λ x n at.
+      node_shown_stays n (value (scene_of t))
+      ∙ ap (λ (o : Option Node). node_stays o (value (scene_of t))) (sym at)
+      ∙ stays_same (node_at t x) (value (scene_of t)) (kept t) (λ o r. sym (kept_is_value t order k o))
+      ∙ k.stays x))
 
   pub well_kept : IsDistinct bytes_eq (names_of t) → IsWell (scene_of t)
   well_kept distinct = record {
@@ -83,8 +81,21 @@ module _ (t : Table) (order : List (List ℕ)) (k : IsKept t order) where
         (by_node (λ e. is_dim (pos e.dim) ≡ true) (λ x n at. (node_sized_at x n at).0));
     sound = all_entries (λ (e : Entry). what_is_sound (scene_of t) e.dim e.what) (entries_of t) (entries_apart t distinct)
         (by_node (λ e. what_is_sound (scene_of t) e.dim e.what ≡ true) node_sound);
+    stay = kept_stay (entries_apart t distinct);
     order = order;
     ordered = entries_ordered t order k;
     whole = entries_whole t order k;
     size = entries_size t order k;
   }
+
+-- the same of the scene that a table shows
+pub shown_stay : (u : Table) (rank : List (List ℕ)) (s : Scene) → IsKept u rank → scene_of u ≡ s → names_differ s.entries ≡ true → all_stay s ≡ true
+shown_stay u rank s k shown differ =
+    subst (λ (v : Scene). all_stay v ≡ true) shown (kept_stay u rank k (ap (λ (v : Scene). names_differ v.entries) shown ∙ differ))
+
+-- where an input has another figure
+pub input_left : (t u : Table) (order : List (List ℕ)) (name : List ℕ) (new : Figure) → IsKept u order → scene_of u ≡ with_figure (scene_of t) name new
+    → IsDistinct bytes_eq (names_of t) → all_stay (with_figure (scene_of t) name new) ≡ true
+input_left t u order name new k shown distinct =
+    shown_stay u order (with_figure (scene_of t) name new) k shown
+    (differ_with (entries_of t) name (record { name = name; dim = new.dim; what = Given new.cells }) refl (entries_apart t distinct))

@@ -1,5 +1,5 @@
 -- Edits of an input by a box.
-use Rattle.std.specs.Prelude.{ℕ, ◌≡◌, true, false, ℤ, List, Some, None, is_some}
+use Rattle.std.specs.Prelude.{ℕ, ◌≡◌, true, false, ℤ, List, Some, is_some}
 use Rattle.evm_model.specs.Figures.{Figure, xor_of, or_of, sub_of}
 use Rattle.evm_model.specs.Scene.{Scene, with_figure}
 use Rattle.evm_model.specs.Edits as model
@@ -34,10 +34,10 @@ IsRefused Dim scene edit = model.refusal scene edit ≡ Some model.Dim
 IsRefused Range scene edit = model.refusal scene edit ≡ Some model.Range
 IsRefused NoMemory scene edit = Unit {0}
 
--- nothing refuses the edit of an input, and its change is made
+-- only the scene that it would leave refuses the edit of an input, and its change is made
 pub record IsPlanned (t : Table) (name : List ℕ) (edit : model.Edit) (c : Change) : Type 0 where
   pub stands : is_some (node_at t name) ≡ true
   pub input : is_made (node_at t name) ≡ false
   pub change : IsChange (Some c) (kept t name)
-  pub fine : model.refusal (scene_of t) edit ≡ None
+  pub only : model.refusal (scene_of t) edit ≡ model.first_cause (model.value_causes (model.after (scene_of t) edit))
   pub after : with_figure (scene_of t) name (figure_of c.after) ≡ model.after (scene_of t) edit

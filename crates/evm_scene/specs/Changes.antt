@@ -6,9 +6,8 @@ use Rattle.evm_cells.specs.Vertices.{cells}
 use Rattle.evm_cells.specs.Limits.{IsCellSet}
 use Rattle.evm_script.specs.declared.formula.Formula.{Formula}
 use Rattle.evm_model.specs.Figures.{Figure, xor_of, same_figure}
-use Rattle.evm_model.specs.Orders.{is_among}
-use Rattle.evm_model.specs.Scene.{formula_value}
-use Rattle.evm_scene.specs.Tables.{Table, figure_of, node_at, node_value, node_figure, is_made, put_solid, put_made, with_solid, kept}
+use Rattle.evm_model.specs.Orders.{is_among, AllSeen}
+use Rattle.evm_scene.specs.Tables.{Table, figure_of, node_at, reads_at, node_value, node_stays, node_figure, is_made, put_solid, put_made, with_solid, kept}
 use Rattle.evm_scene.specs.declared.node.Node.{Node}
 use Rattle.evm_scene.specs.declared.node.Change.{Change}
 
@@ -47,9 +46,11 @@ change_at p x = lookup (bytes_eq x) p
 abbrev pub moved : Table → Pending → List ℕ → Figure
 moved t p x = after_of (change_at p x) (kept t x)
 
--- each name but the edited one has its formula at the figures of its operands, and no name before it changes
+-- each name but the edited one has its formula at the figures of its operands, which moves no cell out of the limits there,
+-- and no name before it changes
 pub record IsCarried (t : Table) (front : List (List ℕ)) (name : List ℕ) (old p : Pending) : Type 0 where
   pub fixed : (x : List ℕ) → bytes_eq x name ≡ false → moved t p x ≡ node_value (node_at t x) (moved t p)
+  pub stays : (x : List ℕ) → bytes_eq x name ≡ false → node_stays (node_at t x) (moved t p) ≡ true
   pub early : (x : List ℕ) → is_among x front ≡ true → change_at p x ≡ None
   pub seed : change_at p name ≡ change_at old name
   pub change : (x : List ℕ) → IsChange (change_at p x) (kept t x)
@@ -60,8 +61,22 @@ pub record IsCarriedTo (t : Table) (name : List ℕ) (p q : Pending) : Type 0 wh
   pub made : Option Change
   pub put : (x : List ℕ) → change_at q x ≡ cond (bytes_eq name x) made (change_at p x)
   pub after : after_of made (kept t name) ≡ node_value (node_at t name) (moved t p)
+  pub stays : node_stays (node_at t name) (moved t p) ≡ true
   pub change : IsChange made (kept t name)
   pub moves : MovesNode made (node_at t name)
+
+-- the changes when a name was met whose formula, at the figures with them in place, moves a cell out of the limits: the names
+-- that were seen before, but the edited one, have their formulas there, and what it reads was seen
+pub record IsHalted (t : Table) (name : List ℕ) (old : Pending) : Type 0 where
+  pub pending : Pending
+  pub seen : List (List ℕ)
+  pub last : List ℕ
+  pub seed : change_at pending name ≡ change_at old name
+  pub closed : (x : List ℕ) → is_among x seen ≡ true → bytes_eq x name ≡ false → AllSeen seen (reads_at t x)
+  pub fixed : (x : List ℕ) → is_among x seen ≡ true → bytes_eq x name ≡ false → moved t pending x ≡ node_value (node_at t x) (moved t pending)
+  pub other : bytes_eq last name ≡ false
+  pub reads : AllSeen seen (reads_at t last)
+  pub out : node_stays (node_at t last) (moved t pending) ≡ false
 
 -- how many names change their cells, where `rest` are all changes but the own one of the edited name
 pub record IsCount (own : Change) (all rest : Pending) (names : ℕ) : Type 0 where
@@ -81,11 +96,17 @@ moved_node None c = None
 moved_node (Some n) None = Some n
 moved_node (Some n) (Some c) = Some (with_solid n c.after)
 
--- the changes that follow from another formula of a name
-pub record IsRedefined (t : Table) (front : List (List ℕ)) (name : List ℕ) (f : Formula) (p : Pending) : Type 0 where
+-- the changes that follow from another figure of a name
+pub record IsRedefined (t : Table) (front : List (List ℕ)) (name : List ℕ) (new : Figure) (p : Pending) : Type 0 where
   pub own : Change
   pub carried : IsCarried t front name ((name, own) ∷ []) p
-  pub value : figure_of own.after ≡ formula_value f (kept t)
+  pub value : figure_of own.after ≡ new
+
+-- those that were made when a formula was met that moves a cell out of the limits
+pub record IsStuck (t : Table) (name : List ℕ) (new : Figure) : Type 0 where
+  pub own : Change
+  pub halted : IsHalted t name ((name, own) ∷ [])
+  pub value : figure_of own.after ≡ new
 
 -- the changes of a formula and of the names that read it are in place; n of them are changes of cells
 pub record IsInstalled (t u : Table) (name : List ℕ) (f : Formula) (p : Pending) (n : ℕ) : Type 0 where

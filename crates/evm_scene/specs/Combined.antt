@@ -1,13 +1,10 @@
 -- Booleans and boxes as figures.
-use Rattle.std.specs.Prelude.{ℕ, ◌≡◌, Bool, true, false, ◌&&◌, int_le, ℤ, List, Option, None, Some, Result, Ok, Err}
+use Rattle.std.specs.Prelude.{ℕ, ◌≡◌, Bool, true, false, ◌&&◌, int_le, ℤ, List, Result, Ok, Err}
 use Rattle.evm_rows.specs.Rows.{Vertices}
 use Rattle.evm_boolean.specs.declared.boolean.Op2.{Op2}
 use Rattle.evm_boolean.specs.declared.boolean.Op2.TheVariants as ops
-use Rattle.evm_script.specs.declared.formula.Formula.{Formula}
-use Rattle.evm_script.specs.declared.formula.Formula.TheVariants.{Or, And, Sub, Xor, Box}
 use Rattle.evm_model.specs.Figures.{Figure, or_of, and_of, sub_of, xor_of, low_of, high_of, box_at, box_fits}
 use Rattle.evm_scene.specs.Tables.{figure_of}
-use Rattle.evm_scene.specs.declared.solids.Pair.{Pair}
 use Rattle.evm_scene.specs.declared.edit.Refusal.{Refusal}
 use Rattle.evm_scene.specs.declared.edit.Refusal.TheVariants.{Name, Taken, Kind, Used, Cycle, Dim, Range, NoMemory}
 
@@ -17,14 +14,6 @@ combine_of ops.Or a b = or_of a b
 combine_of ops.And a b = and_of a b
 combine_of ops.Sub a b = sub_of a b
 combine_of ops.Xor a b = xor_of a b
-
--- the Boolean of two names that a formula is, if it is one
-abbrev pub pair_in : Formula → Option Pair
-pair_in (Or a b) = Some (record { op = ops.Or; a = a; b = b })
-pair_in (And a b) = Some (record { op = ops.And; a = a; b = b })
-pair_in (Sub a b) = Some (record { op = ops.Sub; a = a; b = b })
-pair_in (Xor a b) = Some (record { op = ops.Xor; a = a; b = b })
-pair_in (Box dim nums) = None
 
 -- a number from low to high
 abbrev pub is_between : ℤ → ℤ → ℤ → Bool

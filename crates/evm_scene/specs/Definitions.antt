@@ -3,7 +3,7 @@ use Rattle.std.specs.Prelude.{ℕ, ◌≡◌, Bool, true, false, not, ◌&&◌, 
 use Rattle.evm_rows.specs.Rows.{Vertices}
 use Rattle.evm_script.specs.declared.formula.Formula.{Formula}
 use Rattle.evm_model.specs.Figures.{Figure}
-use Rattle.evm_model.specs.Scene.{Scene, stands, formula_value, formula_in_range}
+use Rattle.evm_model.specs.Scene.{Scene, stands, formula_value, formula_stays, formula_in_range}
 use Rattle.evm_model.specs.Edits.{closes_cycle}
 use Rattle.evm_scene.specs.declared.edit.Refusal.{Refusal}
 use Rattle.evm_scene.specs.declared.edit.Refusal.TheVariants.{Name, Taken, Kind, Used, Cycle, Dim, Range, NoMemory}
@@ -15,17 +15,18 @@ use Rattle.evm_scene.specs.Orders.{Parted}
 abbrev pub is_missing : Scene → List ℕ → List ℕ → Bool
 is_missing scene name o = not (bytes_eq o name) && not (stands scene o)
 
--- what is made of a formula whose operands fit; it is refused by its numbers exactly where they are past their limits
-abbrev pub IsMade : {A : Type 0} → Result A Refusal → Scene → Formula → (A → Type 0) → Type 0
-IsMade (Ok a) scene f P = (formula_in_range scene f ≡ true) × P a
-IsMade (Err Range) scene f P = formula_in_range scene f ≡ false
-IsMade (Err NoMemory) scene f P = Unit {0}
-IsMade (Err Name) scene f P = ⊥
-IsMade (Err Taken) scene f P = ⊥
-IsMade (Err Kind) scene f P = ⊥
-IsMade (Err Used) scene f P = ⊥
-IsMade (Err Cycle) scene f P = ⊥
-IsMade (Err Dim) scene f P = ⊥
+-- what is made of a formula whose operands fit, at the figures of its operands; it is refused by its numbers exactly where
+-- one that it states is past its limits, or a cell that it moves is
+abbrev pub IsMade : {A : Type 0} → Result A Refusal → Scene → Formula → (List ℕ → Figure) → (A → Type 0) → Type 0
+IsMade (Ok a) scene f at P = (formula_in_range scene f ≡ true) × (formula_stays f at ≡ true) × P a
+IsMade (Err Range) scene f at P = (formula_in_range scene f && formula_stays f at) ≡ false
+IsMade (Err NoMemory) scene f at P = Unit {0}
+IsMade (Err Name) scene f at P = ⊥
+IsMade (Err Taken) scene f at P = ⊥
+IsMade (Err Kind) scene f at P = ⊥
+IsMade (Err Used) scene f at P = ⊥
+IsMade (Err Cycle) scene f at P = ⊥
+IsMade (Err Dim) scene f at P = ⊥
 
 -- the solid of a formula at these figures, in this dimension
 abbrev pub IsValue : ℕ → Formula → (List ℕ → Figure) → Vertices → Type 0

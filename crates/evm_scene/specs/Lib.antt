@@ -6,3 +6,5 @@ pub mod Shown
 pub mod Combined
 pub mod Definitions
 pub mod BoxEdits
+pub mod Operations
+pub mod Refused

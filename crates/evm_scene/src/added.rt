@@ -5,11 +5,12 @@ ghost use Rattle.evm_model.specs.Orders.{is_among};
 ghost use Rattle.evm_model.specs.Scene.{is_dim, IsWell};
 ghost use Rattle.evm_model.specs.Edits as model;
 ghost use Rattle.evm_scene.specs.Applied.{Applies};
-ghost use Rattle.evm_scene.specs.Tables.{scene_of, figure_of, node_at, made_reads, node_value, kept, dim_at, NodeSized, entries_of, entry_view};
+ghost use Rattle.evm_scene.specs.Tables.{scene_of, figure_of, node_at, made_reads, node_value, node_stays, kept, dim_at, NodeSized, entries_of, entry_view};
 ghost use Rattle.evm_scene.specs.Orders.{IsKept};
 
 use super::edit::{Changed, Refusal};
 use super::node::Node;
+use super::numbers::stated;
 use super::solids::none;
 use evm_rows::NoMemory;
 use evm_script::{Name, Num};
@@ -38,6 +39,7 @@ pub fn add(
     requires operands { (o : List ℕ) → is_among o (made_reads node.formula) ≡ true → is_some (node_at table.old.entries o) ≡ true }
     requires sized { NodeSized (Some node) (dim_at table.old.entries) }
     requires value { figure_of node.solid ≡ node_value (Some node) (kept table.old.entries) }
+    requires stays { node_stays (Some node) (kept table.old.entries) ≡ true }
     ensures kept { IsKept table.new.entries order.new.items }
     ensures ok { OnOk result (entries_of table.new.entries ≡ entries_of table.old.entries ++ entry_view (name, node) ∷ []) }
     ensures err { OnErr result (table.new.entries ≡ table.old.entries) }
@@ -51,18 +53,6 @@ pub fn add(
             Ok(())
         }
         Err(_) => Err(NoMemory),
-    }
-}
-
-/// A dimension that solids have, of a number that states one.
-pub fn stated(dim: Num) -> Option<usize>
-    ensures { MatchOption result (is_dim dim ≡ false) (λ n. (is_dim dim ≡ true) × (n ≡ nat_abs dim) × (is_dim (pos n) ≡ true) × (0 < n) × (n ≤ 6)) }
-{
-    let n = dim.value();
-    if 2 <= n && n <= 6 {
-        Some(n as usize)
-    } else {
-        None
     }
 }
 

@@ -1,7 +1,8 @@
 //! Edits of inputs by boxes.
 
-ghost use Rattle.std.specs.Prelude.{◌≡◌, Some, IfOk, MatchResult};
-ghost use Rattle.evm_scene.specs.Tables.{figure_of, scene_of};
+ghost use Rattle.std.specs.Prelude.{◌≡◌, ℕ, List, Some, IfOk, MatchResult};
+ghost use Rattle.evm_model.specs.Scene.{value};
+ghost use Rattle.evm_scene.specs.Tables.{figure_of, node_at, kept, dim_at, NodeSized, scene_of};
 ghost use Rattle.evm_scene.specs.Orders.{IsKept};
 ghost use Rattle.evm_scene.specs.Changes.{IsChange};
 ghost use Rattle.evm_scene.specs.Applied.{Applies};
@@ -71,12 +72,11 @@ fn planned(
     edit: BoxEdit,
     name: &Name,
     nums: &Nums,
-    order: &[Name],
 ) -> Result<Change, Refusal>
-    requires { IsKept table.now.entries order.now }
+    requires sized { (x : List ℕ) → NodeSized (node_at table.now.entries x) (dim_at table.now.entries) }
+    requires values { (x : List ℕ) → kept table.now.entries x ≡ value (scene_of table.now.entries) x }
     ensures { MatchResult result (IsPlanned table.now.entries name.now (edit_by edit name.now nums.now)) (λ r. IsRefused r (scene_of table.now.entries) (edit_by edit name.now nums.now)) }
 {
-    let _ = order;
     let Some(node) = table.get(name) else {
         return Err(Refusal::Name);
     };
@@ -99,7 +99,8 @@ fn planned(
 /// Changes an input by a box, and each name that reads it.
 ///
 /// Refused in this order: `Name` where the name does not stand, `Kind` where it is a formula, `Dim` where the numbers are not
-/// twice as many as its dimension, `Range` where one is past the limits or the box has no room on some axis.
+/// twice as many as its dimension, `Range` where one is past the limits, the box has no room on some axis, or a formula would
+/// move some cell out of the limits.
 pub fn edit_by_box(
     alloc: Global,
     table: &mut IndexMap<Name, Node>,
@@ -112,12 +113,12 @@ pub fn edit_by_box(
     ensures kept { IsKept table.new.entries order.now }
     ensures applies { Applies result (scene_of table.old.entries) (scene_of table.new.entries) (edit_by edit name.now nums.now) }
 {
-    let change = match planned(alloc, table, edit, name, nums, order) {
+    let change = match planned(alloc, table, edit, name, nums) {
         Ok(change) => change,
-        Err(refusal) => return Err(refusal),
+        Err(cause) => return Err(cause),
     };
     match set_input(alloc, table, order, name, change) {
         Ok(names) => Ok(Changed { names }),
-        Err(_) => Err(Refusal::NoMemory),
+        Err(e) => Err(Refusal::from(e)),
     }
 }

@@ -1,30 +1,98 @@
 //! Carrying a change through the names that come later.
 
-ghost use Rattle.std.specs.Prelude.{◌≡◌, ℕ, List, true, false, OnOk, IfOk, [], ◌∷◌, is_some, None, Some, cond, bytes_eq};
+ghost use Rattle.std.specs.Prelude.{◌≡◌, ◌↔◌, ℕ, List, true, false, OnOk, IfOk, IsErrOf, [], ◌∷◌, is_some, None, Some, cond, bytes_eq};
+ghost use Rattle.evm_delta.specs.Shapes.{Fits, op1_dim};
 ghost use Rattle.evm_model.specs.Orders.{is_among, Ordered};
-ghost use Rattle.evm_scene.specs.Tables.{node_at, reads_at, node_value, kept, dim_at, NodeSized};
-ghost use Rattle.evm_scene.specs.Changes.{change_at, moved, after_of, IsChange, IsStill, MovesNode, IsCarried, IsCarriedTo};
+ghost use Rattle.evm_model.specs.Scene.{dim_of};
+ghost use Rattle.evm_scene.specs.Tables.{figure_of, node_at, reads_at, node_value, node_stays, kept, dim_at, NodeSized, scene_of};
+ghost use Rattle.evm_scene.specs.Combined.{combine_of};
+ghost use Rattle.evm_scene.specs.Operations.{shape_of, shape_stays};
+ghost use Rattle.evm_scene.specs.Changes.{change_at, moved, after_of, IsChange, IsStill, Moves, MovesNode, IsCarried, IsCarriedTo, IsHalted};
 
-use super::node::{Change, Node, both_changed};
-use super::solids::{is_none, pair_of};
-use evm_rows::NoMemory;
+use super::formulas::solid_of;
+use super::node::{Change, Node, both_changed, one_changed};
+use super::operations::{Operation, operation_of};
+use super::solids::is_none;
+use evm_boolean::Op2;
+use evm_delta::{DeltaError, Op1};
+use evm_rows::{NoMemory, Solid};
 use evm_script::Name;
 use indexmap::IndexMap;
 use std::alloc::Global;
 
-/// How a name changes where its operands do, or none where it does not.
+/// How a Boolean of two names changes with them, or none where it does not. `own` is its solid.
+fn both_moved(
+    alloc: Global,
+    table: &IndexMap<Name, Node>,
+    pending: &IndexMap<Name, Change>,
+    op: Op2,
+    own: &Solid,
+    a: &Name,
+    b: &Name,
+) -> Result<Option<Change>, NoMemory>
+    requires sized { (x : List ℕ) → NodeSized (node_at table.now.entries x) (dim_at table.now.entries) }
+    requires changes { (x : List ℕ) → IsChange (change_at pending.now.entries x) (kept table.now.entries x) }
+    requires first_stands { is_some (node_at table.now.entries a.now) ≡ true }
+    requires second_stands { is_some (node_at table.now.entries b.now) ≡ true }
+    requires first { dim_of (scene_of table.now.entries) a.now ≡ own.now.dim }
+    requires second { dim_of (scene_of table.now.entries) b.now ≡ own.now.dim }
+    requires value { figure_of own.now ≡ combine_of op (kept table.now.entries a.now) (kept table.now.entries b.now) }
+    ensures after { IfOk result (λ c. after_of c (figure_of own.now) ≡ combine_of op (moved table.now.entries pending.now.entries a.now) (moved table.now.entries pending.now.entries b.now)) }
+    ensures change { IfOk result (λ c. IsChange c (figure_of own.now)) }
+    ensures moves { IfOk result (λ c. Moves c (figure_of own.now)) }
+{
+    both_changed(
+        alloc,
+        op,
+        own,
+        solid_of(table, a),
+        pending.get(a),
+        solid_of(table, b),
+        pending.get(b),
+    )
+}
+
+/// How a shape of a name changes with it, or none where it does not. `own` is its solid. It is `Range` exactly where the shape
+/// moves some cell out of the limits.
+fn shape_moved(
+    alloc: Global,
+    table: &IndexMap<Name, Node>,
+    pending: &IndexMap<Name, Change>,
+    op: &Op1,
+    own: &Solid,
+    a: &Name,
+) -> Result<Option<Change>, DeltaError>
+    requires sized { (x : List ℕ) → NodeSized (node_at table.now.entries x) (dim_at table.now.entries) }
+    requires changes { (x : List ℕ) → IsChange (change_at pending.now.entries x) (kept table.now.entries x) }
+    requires stands { is_some (node_at table.now.entries a.now) ≡ true }
+    requires fits { Fits op.now (dim_of (scene_of table.now.entries) a.now) }
+    requires dim { own.now.dim ≡ op1_dim op.now (dim_of (scene_of table.now.entries) a.now) }
+    requires value { figure_of own.now ≡ shape_of op.now (kept table.now.entries a.now) }
+    requires stays { shape_stays op.now (kept table.now.entries a.now) ≡ true }
+    ensures after { IfOk result (λ c. after_of c (figure_of own.now) ≡ shape_of op.now (moved table.now.entries pending.now.entries a.now)) }
+    ensures change { IfOk result (λ c. IsChange c (figure_of own.now)) }
+    ensures moves { IfOk result (λ c. Moves c (figure_of own.now)) }
+    ensures range { IsErrOf result DeltaError.Range ↔ (shape_stays op.now (moved table.now.entries pending.now.entries a.now) ≡ false) }
+{
+    one_changed(alloc, op, own, solid_of(table, a), pending.get(a))
+}
+
+/// How a name changes where its operands do, or none where it does not. It is `Range` exactly where its formula moves some
+/// cell out of the limits.
 fn change_of(
     alloc: Global,
     table: &IndexMap<Name, Node>,
     pending: &IndexMap<Name, Change>,
     name: &Name,
-) -> Result<Option<Change>, NoMemory>
+) -> Result<Option<Change>, DeltaError>
     requires sized { (x : List ℕ) → NodeSized (node_at table.now.entries x) (dim_at table.now.entries) }
     requires fixed { (x : List ℕ) → kept table.now.entries x ≡ node_value (node_at table.now.entries x) (kept table.now.entries) }
     requires changes { (x : List ℕ) → IsChange (change_at pending.now.entries x) (kept table.now.entries x) }
+    requires stays { node_stays (node_at table.now.entries name.now) (kept table.now.entries) ≡ true }
     ensures after { IfOk result (λ c. after_of c (kept table.now.entries name.now) ≡ node_value (node_at table.now.entries name.now) (moved table.now.entries pending.now.entries)) }
     ensures change { IfOk result (λ c. IsChange c (kept table.now.entries name.now)) }
     ensures moves { IfOk result (λ c. MovesNode c (node_at table.now.entries name.now)) }
+    ensures range { IsErrOf result DeltaError.Range ↔ (node_stays (node_at table.now.entries name.now) (moved table.now.entries pending.now.entries) ≡ false) }
 {
     let Some(node) = table.get(name) else {
         return Ok(None);
@@ -32,41 +100,32 @@ fn change_of(
     let Some(formula) = node.formula else {
         return Ok(None);
     };
-    let Some(pair) = pair_of(&formula) else {
-        return Ok(None);
-    };
-    let Some(first) = table.get(&pair.a) else {
-        unreachable!()
-    };
-    let Some(second) = table.get(&pair.b) else {
-        unreachable!()
-    };
-    both_changed(
-        alloc,
-        pair.op,
-        &node.solid,
-        &first.solid,
-        pending.get(&pair.a),
-        &second.solid,
-        pending.get(&pair.b),
-    )
+    match operation_of(&formula, node.dim) {
+        Operation::Both { op, a, b } => {
+            Ok(both_moved(alloc, table, pending, op, &node.solid, &a, &b)?)
+        }
+        Operation::Shape { op, a } => shape_moved(alloc, table, pending, &op, &node.solid, &a),
+        Operation::Block { .. } => Ok(None),
+    }
 }
 
-/// Makes the change of a name, where there is one.
+/// Makes the change of a name, where there is one. It is `Range` only where its formula moves some cell out of the limits.
 fn carry_to(
     alloc: Global,
     table: &IndexMap<Name, Node>,
     name: &Name,
     pending: &mut IndexMap<Name, Change>,
-) -> Result<(), NoMemory>
+) -> Result<(), DeltaError>
     requires sized { (x : List ℕ) → NodeSized (node_at table.now.entries x) (dim_at table.now.entries) }
     requires fixed { (x : List ℕ) → kept table.now.entries x ≡ node_value (node_at table.now.entries x) (kept table.now.entries) }
     requires changes { (x : List ℕ) → IsChange (change_at pending.old.entries x) (kept table.now.entries x) }
+    requires stays { node_stays (node_at table.now.entries name.now) (kept table.now.entries) ≡ true }
     requires first { change_at pending.old.entries name.now ≡ None }
-    ensures { OnOk result (IsCarriedTo table.now.entries name.now pending.old.entries pending.new.entries) }
+    ensures carried { OnOk result (IsCarriedTo table.now.entries name.now pending.old.entries pending.new.entries) }
+    ensures range { IsErrOf result DeltaError.Range → node_stays (node_at table.now.entries name.now) (moved table.now.entries pending.old.entries) ≡ false }
 {
     match change_of(alloc, table, pending, name)? {
-        Some(change) => put(pending, name, change),
+        Some(change) => Ok(put(pending, name, change)?),
         None => Ok(()),
     }
 }
@@ -84,7 +143,8 @@ fn is_still(pending: &IndexMap<Name, Change>, name: &Name) -> bool
 /// Makes the changes of all names that come later than an edited one, whose own change is noted.
 ///
 /// `front` are the names before it in the order: they do not change. Where the name's own change leaves it as it is, no
-/// other name is looked at; else each later name is looked at once, and a change is made where an operand has one.
+/// other name is looked at; else each later name is looked at once, and a change is made where an operand has one. It is
+/// `Range` only where the formula of such a name moves some cell out of the limits, and the name is the first of those.
 pub fn carry(
     alloc: Global,
     table: &IndexMap<Name, Node>,
@@ -92,9 +152,10 @@ pub fn carry(
     name: &Name,
     later: &[Name],
     pending: &mut IndexMap<Name, Change>,
-) -> Result<(), NoMemory>
+) -> Result<(), DeltaError>
     requires sized { (x : List ℕ) → NodeSized (node_at table.now.entries x) (dim_at table.now.entries) }
     requires fixed { (x : List ℕ) → kept table.now.entries x ≡ node_value (node_at table.now.entries x) (kept table.now.entries) }
+    requires stays { (x : List ℕ) → node_stays (node_at table.now.entries x) (kept table.now.entries) ≡ true }
     requires front { Ordered (reads_at table.now.entries) [] front.now }
     requires alone { is_among name.now front.now ≡ false }
     requires later { Ordered (reads_at table.now.entries) (name.now ∷ front.now) later.now }
@@ -102,6 +163,7 @@ pub fn carry(
     requires others { (x : List ℕ) → bytes_eq x name.now ≡ false → change_at pending.old.entries x ≡ None }
     requires change { IsChange (change_at pending.old.entries name.now) (kept table.now.entries name.now) }
     ensures carried { OnOk result (IsCarried table.now.entries front.now name.now pending.old.entries pending.new.entries) }
+    ensures halted { IsErrOf result DeltaError.Range → IsHalted table.now.entries name.now pending.old.entries }
 {
     let _ = front;
     if is_still(pending, name) {

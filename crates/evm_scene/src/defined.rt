@@ -1,14 +1,14 @@
 //! Definitions of names.
 
-ghost use Rattle.std.specs.Prelude.{◌≡◌, ◌++◌, ◌∷◌, ℕ, List, [], true, false, is_some, Some, option_map, IfOk, MatchOption};
+ghost use Rattle.std.specs.Prelude.{◌≡◌, ◌++◌, ◌∷◌, ℕ, List, [], true, false, is_some, Some, option_map, IfOk, IsErrOf, MatchOption};
 ghost use Rattle.evm_model.specs.Orders.{is_among, Ordered};
 ghost use Rattle.evm_model.specs.Scene.{operands, dim_of, formula_fits, formula_dim, IsWell};
 ghost use Rattle.evm_model.specs.Edits as model;
 ghost use Rattle.evm_model.specs.Edits.{lacks_operand, misses_dim};
-ghost use Rattle.evm_scene.specs.Tables.{node_at, reads_at, node_value, kept, dim_at, is_made, NodeSized, put_made, scene_of};
+ghost use Rattle.evm_scene.specs.Tables.{figure_of, node_at, reads_at, node_value, node_stays, kept, dim_at, is_made, NodeSized, put_made, scene_of};
 ghost use Rattle.evm_scene.specs.Orders.{IsKept, Parted};
-ghost use Rattle.evm_scene.specs.Changes.{change_at, IsChange, IsCarried, IsRedefined, IsInstalled};
-ghost use Rattle.evm_scene.specs.Definitions.{IsMade, IsFree};
+ghost use Rattle.evm_scene.specs.Changes.{change_at, IsChange, IsCarried, IsHalted, IsRedefined, IsStuck, IsInstalled};
+ghost use Rattle.evm_scene.specs.Definitions.{IsFree};
 ghost use Rattle.evm_scene.specs.Applied.{Applies};
 
 use super::added::add;
@@ -21,6 +21,7 @@ use super::node::{Change, Node};
 use super::removed::names;
 use super::reorder::{join, part, reads_reach};
 use super::solids::exclusive_or;
+use evm_delta::DeltaError;
 use evm_rows::{NoMemory, Solid};
 use evm_script::{Formula, Name};
 use indexmap::{IndexMap, IndexSet};
@@ -121,7 +122,8 @@ fn free_parts(
     Ok(parts)
 }
 
-/// The changes that follow from one, in an order in which its name comes after `front`.
+/// The changes that follow from one, in an order in which its name comes after `front`. It is `Range` only where a formula moves
+/// some cell out of the limits.
 fn seeded(
     alloc: Global,
     table: &IndexMap<Name, Node>,
@@ -129,15 +131,17 @@ fn seeded(
     name: &Name,
     later: &[Name],
     change: Change,
-) -> Result<IndexMap<Name, Change>, NoMemory>
+) -> Result<IndexMap<Name, Change>, DeltaError>
     requires sized { (x : List ℕ) → NodeSized (node_at table.now.entries x) (dim_at table.now.entries) }
     requires fixed { (x : List ℕ) → kept table.now.entries x ≡ node_value (node_at table.now.entries x) (kept table.now.entries) }
+    requires stays { (x : List ℕ) → node_stays (node_at table.now.entries x) (kept table.now.entries) ≡ true }
     requires front { Ordered (reads_at table.now.entries) [] front.now }
     requires alone { is_among name.now front.now ≡ false }
     requires later { Ordered (reads_at table.now.entries) (name.now ∷ front.now) later.now }
     requires whole { (x : List ℕ) → is_some (node_at table.now.entries x) ≡ true → is_among x (name.now ∷ front.now) ≡ false → is_among x later.now ≡ true }
     requires change { IsChange (Some change) (kept table.now.entries name.now) }
-    ensures { IfOk result (λ p. IsCarried table.now.entries front.now name.now ((name.now, change) ∷ []) p.entries) }
+    ensures carried { IfOk result (λ p. IsCarried table.now.entries front.now name.now ((name.now, change) ∷ []) p.entries) }
+    ensures halted { IsErrOf result DeltaError.Range → IsHalted table.now.entries name.now ((name.now, change) ∷ []) }
 {
     let mut pending = IndexMap::new(alloc);
     put(&mut pending, name, change)?;
@@ -145,36 +149,30 @@ fn seeded(
     Ok(pending)
 }
 
-/// All changes that follow from another formula of a name, in an order in which it comes after its new operands.
+/// All changes that follow from another solid of a formula, in an order in which it comes after its new operands. It is `Range`
+/// only where a formula moves some cell out of the limits.
 fn reformed(
     alloc: Global,
     table: &IndexMap<Name, Node>,
     order: &[Name],
     parts: &Parts,
     name: &Name,
-    formula: &Formula,
-    dim: usize,
-) -> Result<IndexMap<Name, Change>, Refusal>
+    after: Solid,
+) -> Result<IndexMap<Name, Change>, DeltaError>
     requires kept { IsKept table.now.entries order.now }
     requires parted { Parted (reads_at table.now.entries) order.now name.now parts.now.front.items parts.now.reach.keys [] }
     requires stands { is_some (node_at table.now.entries name.now) ≡ true }
-    requires present { (o : List ℕ) → is_among o (operands formula.now) ≡ true → is_some (node_at table.now.entries o) ≡ true }
-    requires fits { formula_fits (scene_of table.now.entries) formula.now ≡ true }
-    requires dim { dim ≡ formula_dim (scene_of table.now.entries) formula.now }
-    requires same { dim ≡ dim_of (scene_of table.now.entries) name.now }
-    ensures { IsMade result (scene_of table.now.entries) formula.now (λ p. IsRedefined table.now.entries parts.now.front.items name.now formula.now p.entries) }
+    requires same { after.dim ≡ dim_of (scene_of table.now.entries) name.now }
+    ensures redefined { IfOk result (λ p. IsRedefined table.now.entries parts.now.front.items name.now (figure_of after) p.entries) }
+    ensures stuck { IsErrOf result DeltaError.Range → IsStuck table.now.entries name.now (figure_of after) }
 {
     let _ = order;
     let [_, later @ ..] = parts.reach.as_slice() else {
         unreachable!()
     };
-    let after = match evaluate(alloc, table, formula, dim) {
-        Ok(after) => after,
-        Err(refusal) => return Err(refusal),
-    };
     let delta = exclusive_or(alloc, solid_of(table, name), &after)?;
     let change = Change { delta, after };
-    Ok(seeded(alloc, table, parts.front.as_slice(), name, later, change)?)
+    seeded(alloc, table, parts.front.as_slice(), name, later, change)
 }
 
 /// Gives a name another formula and solid.
@@ -219,7 +217,8 @@ fn joined(parts: Parts) -> Result<Vec<Name>, NoMemory>
 
 /// The dimension of a formula, or none exactly where it has none, or another than the name that stands.
 fn fitting(table: &IndexMap<Name, Node>, name: &Name, formula: &Formula) -> Option<usize>
-    requires { is_some (node_at table.now.entries name.now) ≡ true }
+    requires sized { (x : List ℕ) → NodeSized (node_at table.now.entries x) (dim_at table.now.entries) }
+    requires stands { is_some (node_at table.now.entries name.now) ≡ true }
     ensures { MatchOption result (misses_dim (scene_of table.now.entries) name.now formula.now ≡ true) (λ n. (misses_dim (scene_of table.now.entries) name.now formula.now ≡ false) × (formula_fits (scene_of table.now.entries) formula.now ≡ true) × (n ≡ formula_dim (scene_of table.now.entries) formula.now) × (n ≡ dim_of (scene_of table.now.entries) name.now)) }
 {
     match dim_stated(table, formula) {
@@ -256,9 +255,13 @@ fn redefine(
     let Some(dim) = fitting(table, name, &formula) else {
         return Err(Refusal::Dim);
     };
-    let pending = match reformed(alloc, table, order.as_slice(), &parts, name, &formula, dim) {
-        Ok(pending) => pending,
+    let after = match evaluate(alloc, table, &formula, dim) {
+        Ok(after) => after,
         Err(refusal) => return Err(refusal),
+    };
+    let pending = match reformed(alloc, table, order.as_slice(), &parts, name, after) {
+        Ok(pending) => pending,
+        Err(e) => return Err(Refusal::from(e)),
     };
     let Ok(whole) = joined(parts) else {
         return Err(Refusal::NoMemory);

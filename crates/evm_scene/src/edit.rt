@@ -2,7 +2,9 @@
 
 ghost use Rattle.std.specs.Prelude.{◌≡◌};
 ghost use Rattle.evm_scene.specs.declared.edit.Refusal.TheVariants as refusals;
+ghost use Rattle.evm_scene.specs.Refused.{of_delta_error};
 
+use evm_delta::DeltaError;
 use evm_rows::NoMemory;
 use evm_script::{Formula, Name, Num, Nums};
 
@@ -49,6 +51,17 @@ impl From<NoMemory> for Refusal {
 
     fn from(_e: NoMemory) -> Refusal {
         Refusal::NoMemory
+    }
+}
+
+impl From<DeltaError> for Refusal {
+    ghost from_gives = { λ e r. r ≡ of_delta_error e };
+
+    fn from(e: DeltaError) -> Refusal {
+        match e {
+            DeltaError::Range => Refusal::Range,
+            DeltaError::NoMemory => Refusal::NoMemory,
+        }
     }
 }
 

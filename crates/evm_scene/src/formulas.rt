@@ -1,19 +1,24 @@
 //! Formulas over the names of a table: their operands, dimensions and solids.
 
-ghost use Rattle.std.specs.Prelude.{◌≡◌, ℕ, List, true, false, is_some, IfOk, MatchOption};
+ghost use Rattle.std.specs.Prelude.{◌≡◌, ◌≤◌, ◌↔◌, ℕ, List, true, false, is_some, IfOk, IsErrOf, MatchOption};
+ghost use Rattle.evm_delta.specs.Shapes.{Fits, op1_dim};
 ghost use Rattle.evm_model.specs.Orders.{is_among};
-ghost use Rattle.evm_model.specs.Scene.{operands, dim_of, formula_fits, formula_dim};
+ghost use Rattle.evm_model.specs.Scene.{operands, dim_of, formula_fits, formula_dim, formula_in_range};
 ghost use Rattle.evm_model.specs.Edits.{lacks_operand};
 ghost use Rattle.evm_scene.specs.Tables.{figure_of, node_at, kept, dim_at, NodeSized, scene_of};
 ghost use Rattle.evm_scene.specs.Combined.{combine_of};
+ghost use Rattle.evm_scene.specs.Operations.{shape_of, shape_stays};
 ghost use Rattle.evm_scene.specs.Definitions.{is_missing, IsMade, IsValue};
 
-use super::added::stated;
 use super::edit::Refusal;
 use super::node::Node;
-use super::numbers::box_of;
+use super::numbers::{box_of, stated};
+use super::operations::{Operands, Operation, operands_of, operation_of};
+use super::ranges::{is_axis, is_box, is_height, is_range, is_shift, less_one, one_more};
+use super::shapes::shape;
 use super::solids::combine;
 use evm_boolean::Op2;
+use evm_delta::{DeltaError, Op1};
 use evm_rows::{NoMemory, Solid};
 use evm_script::{Formula, Name};
 use indexmap::IndexMap;
@@ -30,18 +35,19 @@ fn is_lacking(table: &IndexMap<Name, Node>, name: &Name, operand: &Name) -> bool
 pub fn lacks(table: &IndexMap<Name, Node>, name: &Name, formula: &Formula) -> bool
     ensures { result ≡ lacks_operand (scene_of table.now.entries) name.now formula.now }
 {
-    match formula {
-        Formula::Or { a, b }
-        | Formula::And { a, b }
-        | Formula::Sub { a, b }
-        | Formula::Xor { a, b } => is_lacking(table, name, a) || is_lacking(table, name, b),
-        Formula::Box { .. } => false,
+    match operands_of(formula) {
+        Operands::Two(a, b) => is_lacking(table, name, &a) || is_lacking(table, name, &b),
+        Operands::One(a) => is_lacking(table, name, &a),
+        Operands::Zero => false,
     }
 }
 
 /// The dimension of a name, 0 where it does not stand.
 pub fn dim_named(table: &IndexMap<Name, Node>, name: &Name) -> usize
-    ensures { result ≡ dim_of (scene_of table.now.entries) name.now }
+    requires sized { (x : List ℕ) → NodeSized (node_at table.now.entries x) (dim_at table.now.entries) }
+    ensures value { result ≡ dim_of (scene_of table.now.entries) name.now }
+    ensures low { is_some (node_at table.now.entries name.now) ≡ true → 2 ≤ result }
+    ensures high { result ≤ 6 }
 {
     match table.get(name) {
         Some(node) => node.dim,
@@ -49,27 +55,68 @@ pub fn dim_named(table: &IndexMap<Name, Node>, name: &Name) -> usize
     }
 }
 
-/// The dimension of a formula, or none exactly where it has none: its operands differ in it, or it states none that solids
-/// have, or not as many numbers as that asks for.
+/// This dimension, or none exactly where it does not fit.
+fn only(fits: bool, dim: usize) -> Option<usize>
+    ensures { MatchOption result (fits ≡ false) (λ n. (fits ≡ true) × (n ≡ dim)) }
+{
+    if fits { Some(dim) } else { None }
+}
+
+/// The dimension of a formula, or none exactly where it has none: its operands differ in it, it states no axis of theirs or
+/// not as many numbers as they ask for, or solids have no such dimension.
 pub fn dim_stated(table: &IndexMap<Name, Node>, formula: &Formula) -> Option<usize>
+    requires sized { (x : List ℕ) → NodeSized (node_at table.now.entries x) (dim_at table.now.entries) }
     ensures { MatchOption result (formula_fits (scene_of table.now.entries) formula.now ≡ false) (λ n. (formula_fits (scene_of table.now.entries) formula.now ≡ true) × (n ≡ formula_dim (scene_of table.now.entries) formula.now)) }
 {
-    match formula {
+    match *formula {
         Formula::Or { a, b }
         | Formula::And { a, b }
         | Formula::Sub { a, b }
         | Formula::Xor { a, b } => {
-            let dim = dim_named(table, a);
-            if dim == dim_named(table, b) {
-                Some(dim)
-            } else {
-                None
-            }
+            let dim = dim_named(table, &a);
+            only(dim == dim_named(table, &b), dim)
         }
-        Formula::Box { dim, nums } => match stated(*dim) {
-            Some(n) => { if nums.len() == 2 * n { Some(n) } else { None } }
+        Formula::Box { dim, nums } => match stated(dim) {
+            Some(n) => only(nums.len() == 2 * n, n),
             None => None,
         },
+        Formula::Shift { a, nums } => {
+            let dim = dim_named(table, &a);
+            only(nums.len() == dim, dim)
+        }
+        Formula::Mirror { a, axis } => {
+            let dim = dim_named(table, &a);
+            only(is_axis(dim, axis), dim)
+        }
+        Formula::Swap { a, i, j } => {
+            let dim = dim_named(table, &a);
+            only(is_axis(dim, i) && is_axis(dim, j), dim)
+        }
+        Formula::Clip { a, nums } => {
+            let dim = dim_named(table, &a);
+            only(nums.len() == 2 * dim, dim)
+        }
+        Formula::Slice { a, axis, .. } | Formula::Proj { a, axis } => {
+            less_one(dim_named(table, &a), axis)
+        }
+        Formula::Lift { a, axis, .. } => one_more(dim_named(table, &a), axis),
+    }
+}
+
+/// Whether the numbers that a formula states are in their limits, where its operands stand and it fits them.
+fn in_range(table: &IndexMap<Name, Node>, formula: &Formula) -> bool
+    requires sized { (x : List ℕ) → NodeSized (node_at table.now.entries x) (dim_at table.now.entries) }
+    requires present { (o : List ℕ) → is_among o (operands formula.now) ≡ true → is_some (node_at table.now.entries o) ≡ true }
+    requires fits { formula_fits (scene_of table.now.entries) formula.now ≡ true }
+    ensures { result ≡ formula_in_range (scene_of table.now.entries) formula.now }
+{
+    match *formula {
+        Formula::Box { nums, .. } => is_box(nums.len() / 2, nums.values()),
+        Formula::Shift { a, nums } => is_shift(dim_named(table, &a), nums.values()),
+        Formula::Clip { a, nums } => is_box(dim_named(table, &a), nums.values()),
+        Formula::Slice { a, at, .. } => is_height(dim_named(table, &a), at),
+        Formula::Lift { a, lo, hi, .. } => is_range(dim_named(table, &a) + 1, lo, hi),
+        _ => true,
     }
 }
 
@@ -104,7 +151,21 @@ fn both(
     combine(alloc, op, solid_of(table, a), solid_of(table, b))
 }
 
-/// The solid of a formula whose operands stand and agree in their dimension, which is given.
+/// A shape of the solid of a name. It is `Range` exactly where the shape moves some cell out of the limits.
+fn one(alloc: Global, table: &IndexMap<Name, Node>, op: &Op1, a: &Name) -> Result<Solid, DeltaError>
+    requires sized { (x : List ℕ) → NodeSized (node_at table.now.entries x) (dim_at table.now.entries) }
+    requires stands { is_some (node_at table.now.entries a.now) ≡ true }
+    requires fits { Fits op.now (dim_of (scene_of table.now.entries) a.now) }
+    ensures value { IfOk result (λ s. figure_of s ≡ shape_of op.now (kept table.now.entries a.now)) }
+    ensures dim { IfOk result (λ s. s.dim ≡ op1_dim op.now (dim_of (scene_of table.now.entries) a.now)) }
+    ensures range { IsErrOf result DeltaError.Range ↔ (shape_stays op.now (kept table.now.entries a.now) ≡ false) }
+{
+    shape(alloc, op, solid_of(table, a))
+}
+
+/// The solid of a formula whose operands stand and which fits them, in its dimension, which is given.
+///
+/// It is `Range` exactly where a number that it states is out of its limits, or it moves some cell out of them.
 pub fn evaluate(
     alloc: Global,
     table: &IndexMap<Name, Node>,
@@ -115,13 +176,14 @@ pub fn evaluate(
     requires present { (o : List ℕ) → is_among o (operands formula.now) ≡ true → is_some (node_at table.now.entries o) ≡ true }
     requires fits { formula_fits (scene_of table.now.entries) formula.now ≡ true }
     requires dim { dim ≡ formula_dim (scene_of table.now.entries) formula.now }
-    ensures { IsMade result (scene_of table.now.entries) formula.now (IsValue dim formula.now (kept table.now.entries)) }
+    ensures { IsMade result (scene_of table.now.entries) formula.now (kept table.now.entries) (IsValue dim formula.now (kept table.now.entries)) }
 {
-    match formula {
-        Formula::Or { a, b } => Ok(both(alloc, table, Op2::Or, a, b)?),
-        Formula::And { a, b } => Ok(both(alloc, table, Op2::And, a, b)?),
-        Formula::Sub { a, b } => Ok(both(alloc, table, Op2::Sub, a, b)?),
-        Formula::Xor { a, b } => Ok(both(alloc, table, Op2::Xor, a, b)?),
-        Formula::Box { dim: _, nums } => box_of(alloc, dim, nums.values()),
+    if !in_range(table, formula) {
+        return Err(Refusal::Range);
+    }
+    match operation_of(formula, dim) {
+        Operation::Both { op, a, b } => Ok(both(alloc, table, op, &a, &b)?),
+        Operation::Shape { op, a } => Ok(one(alloc, table, &op, &a)?),
+        Operation::Block { nums } => box_of(alloc, dim, nums.values()),
     }
 }

@@ -1,17 +1,17 @@
 //! Edits of inputs.
 
-ghost use Rattle.std.specs.Prelude.{◌≡◌, ◌<◌, length, slice_index_or, ◌++◌, ◌∷◌, [], true, false, is_some, Some, IfOk, OnOk, OnErr};
+ghost use Rattle.std.specs.Prelude.{◌≡◌, ◌<◌, length, slice_index_or, ◌++◌, ◌∷◌, [], true, false, is_some, Some, IfOk, OnOk, OnErr, IsErrOf};
 ghost use Rattle.evm_model.specs.Orders.{is_among};
-ghost use Rattle.evm_model.specs.Scene.{with_figure};
+ghost use Rattle.evm_model.specs.Scene.{with_figure, all_stay};
 ghost use Rattle.evm_model.specs.Edits.{changed_names};
 ghost use Rattle.evm_scene.specs.Tables.{node_at, kept, is_made, figure_of, scene_of};
 ghost use Rattle.evm_scene.specs.Orders.{IsKept};
-ghost use Rattle.evm_scene.specs.Changes.{IsChange, IsCarried};
+ghost use Rattle.evm_scene.specs.Changes.{IsChange, IsCarried, IsHalted};
 
 use super::carry::{carry, put};
 use super::commit::{commit, set_solid, take_own};
 use super::node::{Change, Node};
-use evm_rows::NoMemory;
+use evm_delta::DeltaError;
 use evm_script::Name;
 use indexmap::IndexMap;
 use std::alloc::Global;
@@ -42,18 +42,20 @@ pub fn around<'a>(order: &'a [Name], name: &Name) -> (&'a [Name], &'a [Name])
     }
 }
 
-/// All changes that follow from the change of one name, its own among them.
+/// All changes that follow from the change of one name, its own among them. It is `Range` only where a formula moves some cell
+/// out of the limits.
 pub fn changes(
     alloc: Global,
     table: &IndexMap<Name, Node>,
     order: &[Name],
     name: &Name,
     change: Change,
-) -> Result<IndexMap<Name, Change>, NoMemory>
+) -> Result<IndexMap<Name, Change>, DeltaError>
     requires kept { IsKept table.now.entries order.now }
     requires stands { is_some (node_at table.now.entries name.now) ≡ true }
     requires change { IsChange (Some change) (kept table.now.entries name.now) }
-    ensures { IfOk result (λ p. IsCarried table.now.entries [] name.now ((name.now, change) ∷ []) p.entries) }
+    ensures carried { IfOk result (λ p. IsCarried table.now.entries [] name.now ((name.now, change) ∷ []) p.entries) }
+    ensures halted { IsErrOf result DeltaError.Range → IsHalted table.now.entries name.now ((name.now, change) ∷ []) }
 {
     let (front, later) = around(order, name);
     let mut pending = IndexMap::new(alloc);
@@ -64,14 +66,15 @@ pub fn changes(
 
 /// Gives an input another solid, and each name that reads it its new one. Answers how many names changed their cells.
 ///
-/// All changes are made before the first is put in place, so a failure leaves the table as it is.
+/// All changes are made before the first is put in place, so a failure leaves the table as it is. It is `Range` only where
+/// some formula of the scene with the other solid would move a cell out of the limits.
 pub fn set_input(
     alloc: Global,
     table: &mut IndexMap<Name, Node>,
     order: &[Name],
     name: &Name,
     change: Change,
-) -> Result<usize, NoMemory>
+) -> Result<usize, DeltaError>
     requires kept { IsKept table.old.entries order.now }
     requires stands { is_some (node_at table.old.entries name.now) ≡ true }
     requires input { is_made (node_at table.old.entries name.now) ≡ false }
@@ -79,6 +82,8 @@ pub fn set_input(
     ensures kept { IsKept table.new.entries order.now }
     ensures ok { OnOk result (scene_of table.new.entries ≡ with_figure (scene_of table.old.entries) name.now (figure_of change.after)) }
     ensures count { IfOk result (λ n. n ≡ changed_names (scene_of table.old.entries) (scene_of table.new.entries)) }
+    ensures stays { OnOk result (all_stay (with_figure (scene_of table.old.entries) name.now (figure_of change.after)) ≡ true) }
+    ensures range { IsErrOf result DeltaError.Range → all_stay (with_figure (scene_of table.old.entries) name.now (figure_of change.after)) ≡ false }
     ensures err { OnErr result (table.new.entries ≡ table.old.entries) }
 {
     let _names = table.len();

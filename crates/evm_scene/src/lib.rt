@@ -17,9 +17,12 @@ mod formulas;
 mod inputs;
 mod node;
 mod numbers;
+mod operations;
+mod ranges;
 mod removed;
 mod reorder;
 mod scene;
+mod shapes;
 mod solids;
 #[cfg(test)]
 mod tests;

@@ -1,14 +1,18 @@
 //! Nodes of the table of names, and changes that are not in place yet.
 
-ghost use Rattle.std.specs.Prelude.{◌≡◌, true, false, IfOk};
+ghost use Rattle.std.specs.Prelude.{◌≡◌, ◌↔◌, true, false, IfOk, IsErrOf};
 ghost use Rattle.std.specs.Option.{option_copied};
+ghost use Rattle.evm_delta.specs.Shapes.{Fits, op1_dim};
 ghost use Rattle.evm_model.specs.Figures.{nothing, xor_of};
 ghost use Rattle.evm_scene.specs.Tables.{figure_of};
 ghost use Rattle.evm_scene.specs.Combined.{combine_of};
+ghost use Rattle.evm_scene.specs.Operations.{shape_of, shape_stays};
 ghost use Rattle.evm_scene.specs.Changes.{after_of, IsChange, Moves};
 
+use super::shapes::shape_change;
 use super::solids::{change, exclusive_or, is_none, none, stays};
 use evm_boolean::Op2;
+use evm_delta::{DeltaError, Op1};
 use evm_rows::{NoMemory, Solid};
 use evm_script::Formula;
 use std::alloc::Global;
@@ -81,5 +85,37 @@ pub fn both_changed(
     if is_none(&delta) {
         return Ok(None);
     }
+    Ok(Some(Change { delta, after }))
+}
+
+/// How a shape changes with its operand, or none where it does not.
+///
+/// `own` is the shape of `a` before its change. Where the operand does not change, nothing is looked at. It is `Range` exactly
+/// where the shape moves some cell of the changed operand out of the limits.
+pub fn one_changed(
+    alloc: Global,
+    op: &Op1,
+    own: &Solid,
+    a: &Solid,
+    da: Option<&Change>,
+) -> Result<Option<Change>, DeltaError>
+    requires value { figure_of own.now ≡ shape_of op.now (figure_of a.now) }
+    requires fits { Fits op.now a.now.dim }
+    requires dim { own.now.dim ≡ op1_dim op.now a.now.dim }
+    requires stays { shape_stays op.now (figure_of a.now) ≡ true }
+    requires change { IsChange (option_copied da) (figure_of a.now) }
+    ensures after { IfOk result (λ c. after_of c (figure_of own.now) ≡ shape_of op.now (after_of (option_copied da.entry) (figure_of a.now))) }
+    ensures change { IfOk result (λ c. IsChange c (figure_of own.now)) }
+    ensures moves { IfOk result (λ c. Moves c (figure_of own.now)) }
+    ensures range { IsErrOf result DeltaError.Range ↔ (shape_stays op.now (after_of (option_copied da.entry) (figure_of a.now)) ≡ false) }
+{
+    let Some(moved) = da else {
+        return Ok(None);
+    };
+    let delta = shape_change(alloc, op, a, &moved.delta)?;
+    if is_none(&delta) {
+        return Ok(None);
+    }
+    let after = exclusive_or(alloc, own, &delta)?;
     Ok(Some(Change { delta, after }))
 }

@@ -11,8 +11,8 @@ use evm_script::{NUMS_MAX, Num};
 use std::alloc::Global;
 
 /// The dimension that a number states, or `None` exactly where named solids have no such dimension.
-pub fn dim_of(dim: &Num) -> Option<usize>
-    ensures { MatchOption result (is_dim dim.now ≡ false) (λ d. (is_dim dim.now ≡ true) × (dim.now ≡ pos d)) }
+pub fn stated(dim: Num) -> Option<usize>
+    ensures { MatchOption result (is_dim dim ≡ false) (λ n. (is_dim dim ≡ true) × (n ≡ nat_abs dim) × (is_dim (pos n) ≡ true) × (0 < n) × (n ≤ 6)) }
 {
     let n = dim.value();
     if 2 <= n && n <= 6 {

@@ -11,6 +11,7 @@ ghost use Rattle.evm_scene.specs.Applied.{Applies};
 
 use super::edit::{Changed, Refusal};
 use super::node::Node;
+use super::operations::{Operands, operands_of};
 use evm_script::{Formula, Name};
 use indexmap::IndexMap;
 
@@ -18,12 +19,10 @@ use indexmap::IndexMap;
 pub fn names(formula: &Formula, name: &Name) -> bool
     ensures { result ≡ is_among name.now (operands formula.now) }
 {
-    match formula {
-        Formula::Or { a, b }
-        | Formula::And { a, b }
-        | Formula::Sub { a, b }
-        | Formula::Xor { a, b } => name == a || name == b,
-        Formula::Box { .. } => false,
+    match operands_of(formula) {
+        Operands::Two(a, b) => *name == a || *name == b,
+        Operands::One(a) => *name == a,
+        Operands::Zero => false,
     }
 }
 

@@ -7,6 +7,7 @@ ghost use Rattle.evm_scene.specs.Tables.{reads_at};
 ghost use Rattle.evm_scene.specs.Orders.{meets, Parted};
 
 use super::node::Node;
+use super::operations::{Operands, operands_of};
 use evm_rows::NoMemory;
 use evm_script::{Formula, Name};
 use indexmap::{IndexMap, IndexSet};
@@ -15,12 +16,10 @@ use indexmap::{IndexMap, IndexSet};
 pub fn reads_reach(formula: &Formula, reach: &IndexSet<Name>) -> bool
     ensures { result ≡ meets reach.now.keys (operands formula.now) }
 {
-    match formula {
-        Formula::Or { a, b }
-        | Formula::And { a, b }
-        | Formula::Sub { a, b }
-        | Formula::Xor { a, b } => reach.contains(a) || reach.contains(b),
-        Formula::Box { .. } => false,
+    match operands_of(formula) {
+        Operands::Two(a, b) => reach.contains(&a) || reach.contains(&b),
+        Operands::One(a) => reach.contains(&a),
+        Operands::Zero => false,
     }
 }
 

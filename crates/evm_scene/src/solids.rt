@@ -4,36 +4,11 @@ ghost use Rattle.std.specs.Prelude.{◌≡◌, ◌<◌, ◌≤◌, ◌↔◌, []
 ghost use Rattle.evm_cells.specs.Vertices.{cells};
 ghost use Rattle.evm_model.specs.Figures.{nothing, xor_of, same_figure};
 ghost use Rattle.evm_scene.specs.Tables.{figure_of};
-ghost use Rattle.evm_scene.specs.Combined.{combine_of, pair_in};
+ghost use Rattle.evm_scene.specs.Combined.{combine_of};
 
 use evm_boolean::Op2;
 use evm_rows::{NoMemory, Solid};
-use evm_script::{Formula, Name};
 use std::alloc::Global;
-
-/// A Boolean of two names.
-#[derive(Clone, Copy, Debug)]
-pub struct Pair {
-    /// The Boolean.
-    pub op: Op2,
-    /// The left operand.
-    pub a: Name,
-    /// The right operand.
-    pub b: Name,
-}
-
-/// The Boolean that a formula is, or none where it is a box.
-pub fn pair_of(formula: &Formula) -> Option<Pair>
-    ensures { result ≡ pair_in formula.now }
-{
-    match *formula {
-        Formula::Or { a, b } => Some(Pair { op: Op2::Or, a, b }),
-        Formula::And { a, b } => Some(Pair { op: Op2::And, a, b }),
-        Formula::Sub { a, b } => Some(Pair { op: Op2::Sub, a, b }),
-        Formula::Xor { a, b } => Some(Pair { op: Op2::Xor, a, b }),
-        Formula::Box { .. } => None,
-    }
-}
 
 /// The solid without cells.
 pub fn none(alloc: Global, dim: usize) -> Solid

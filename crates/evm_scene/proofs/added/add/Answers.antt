@@ -16,7 +16,7 @@ returns-in-Ok-clause-kept c =
     let e = c.in-Ok.ensures.entries ∙ insert_entry-new bytes_eq c.args.table.now c.args.name c.args.node c.requires.fresh in
     subst (λ l. IsKept c.insert.new.self.entries l) (sym (c.push.ensures ∙ ap (λ l. l ++ c.args.name ∷ []) c.reserve.ensures.items))
     (kept_added _ _ _ _ c.args.node c.requires.kept c.requires.fresh c.in-Ok.ensures.updates.0
-    (pushed c.args.table.now.entries c.insert.new.self.entries (c.args.name, c.args.node) e) c.requires.operands c.requires.sized c.requires.value)
+    (pushed c.args.table.now.entries c.insert.new.self.entries (c.args.name, c.args.node) e) c.requires.operands c.requires.sized c.requires.value c.requires.stays)
 
 pub returns-in-Ok-clause-ok : goal.returns-in-Ok-clause-ok
 returns-in-Ok-clause-ok c =

@@ -29,6 +29,6 @@ pub returns-in-Ok-box_change : goal.returns-in-Ok-box_change
 returns-in-Ok-box_change c =
     let made : is_some c.in-Some.node.now.formula ≡ false = search rules in
     let sized : (length c.args.nums.now == 2 * c.in-Some.node.now.dim) ≡ true = search rules in
-    plan c.args.edit c.args.table.now.entries c.args.name.now c.args.nums.now c.in-Some.node.now (sym c.in-Some.ensures.value) c.args.order.now c.in-Ok.cuboid c.in-Ok-box_change.change c.requires made sized
+    plan c.args.edit c.args.table.now.entries c.args.name.now c.args.nums.now c.in-Some.node.now (sym c.in-Some.ensures.value) c.in-Ok.cuboid c.in-Ok-box_change.change c.requires.values made sized
     (subst (λ (xs : List ℤ). MakesBox (Ok c.in-Ok.cuboid) c.in-Some.node.now.dim xs) c.values.ensures.value c.in-Ok.ensures)
     c.in-Ok-box_change.ensures.after c.in-Ok-box_change.ensures.change

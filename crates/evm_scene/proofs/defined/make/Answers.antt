@@ -1,9 +1,10 @@
-use Rattle.std.proofs.Common.{◌≡◌, ℕ, List, Bool, true, false, not, is_some, rules, refl, sym, subst, ap, ◌∙◌}
+use Rattle.std.proofs.Common.{◌≡◌, ℕ, List, Bool, true, false, not, ◌&&◌, is_some, rules, refl, sym, subst, ap, ◌∙◌}
 use Rattle.evm_model.specs.Orders.{is_among}
-use Rattle.evm_model.specs.Scene.{operands}
+use Rattle.evm_model.specs.Scene.{operands, formula_in_range}
 use Rattle.evm_scene.specs.Tables.{scene_of, kept}
 use Rattle.evm_scene.specs.Definitions.{IsValue}
-use Rattle.evm_scene.proofs.Causes.{refused_cycle, refused_dim, refused_range, unmade, no_input, cycle_itself, dim_missed, operand_present, no_cycle, made_sized, new_done}
+use Rattle.evm_scene.proofs.Causes.{refused_cycle, refused_dim, refused_range, unmade, no_input, cycle_itself, dim_missed, operand_present, no_cycle, made_sized, new_left, new_done}
+use Rattle.evm_scene.proofs.Views.{kept_is_value}
 use Rattle.evm_scene.proofs.defined.make.Goals as goal
 
 pub returns-then-names-clause-applies : goal.returns-then-names-clause-applies
@@ -30,10 +31,13 @@ evaluate-requires-clause-present c =
 pub returns-in-Err-clause-applies : goal.returns-in-Err-clause-applies
 returns-in-Err-clause-applies c =
     let t = c.args.table.now.entries in
-    unmade c.in-Err.refusal (scene_of t) c.args.formula (IsValue c.in-Some.dim c.args.formula (kept t)) _ c.in-Err.ensures
-    (refused_range (scene_of t) c.args.name c.args.formula c.requires.present (no_input t c.args.name c.args.formula c.requires.well c.requires.fresh c.requires.present)
+    unmade c.in-Err.refusal (scene_of t) c.args.formula (kept t) (IsValue c.in-Some.dim c.args.formula (kept t)) _ c.in-Err.ensures
+    (λ h. refused_range (scene_of t) c.args.name c.args.formula c.requires.present (no_input t c.args.name c.args.formula c.requires.well c.requires.fresh c.requires.present)
     (no_cycle t c.args.name c.args.formula c.requires.well c.requires.fresh c.requires.present (sym c.names.ensures ∙ c.if-names.false))
-    (dim_missed t c.args.name c.args.formula c.requires.well c.requires.fresh c.requires.present ∙ ap not c.in-Some.ensures.0))
+    (dim_missed t c.args.name c.args.formula c.requires.well c.requires.fresh c.requires.present ∙ ap not c.in-Some.ensures.0)
+    (ap (λ (b : Bool). formula_in_range (scene_of t) c.args.formula && b)
+    (new_left t c.args.name c.args.formula c.requires.well c.requires.fresh c.requires.present (sym c.names.ensures ∙ c.if-names.false) (kept_is_value t c.args.order.now.items c.requires.kept))
+    ∙ h))
 
 pub add-requires-clause-operands : goal.add-requires-clause-operands
 add-requires-clause-operands c =
@@ -42,9 +46,12 @@ add-requires-clause-operands c =
 pub add-requires-clause-sized : goal.add-requires-clause-sized
 add-requires-clause-sized c =
     made_sized c.args.table.now.entries c.args.name c.args.formula c.requires.well c.requires.fresh c.requires.present (sym c.names.ensures ∙ c.if-names.false)
-    c.in-Some.dim c.in-Ok.solid c.in-Some.ensures.0 c.in-Some.ensures.1 c.in-Ok.ensures.0 c.in-Ok.ensures.1.1
+    c.in-Some.dim c.in-Ok.solid c.in-Some.ensures.0 c.in-Some.ensures.1 c.in-Ok.ensures.0 c.in-Ok.ensures.2.1
 
 pub returns-in-Ok-add-clause-applies : goal.returns-in-Ok-add-clause-applies
 returns-in-Ok-add-clause-applies c =
     new_done c.args.table.now.entries c.args.name c.args.formula c.requires.well c.requires.fresh c.requires.present (sym c.names.ensures ∙ c.if-names.false)
-    c.add.new.table.entries c.in-Some.dim c.in-Ok.solid c.in-Some.ensures.0 c.in-Some.ensures.1 c.in-Ok.ensures.0 c.in-Ok-add.ensures.ok
+    c.add.new.table.entries c.in-Some.dim c.in-Ok.solid c.in-Some.ensures.0 c.in-Some.ensures.1 c.in-Ok.ensures.0
+    (new_left c.args.table.now.entries c.args.name c.args.formula c.requires.well c.requires.fresh c.requires.present (sym c.names.ensures ∙ c.if-names.false)
+    (kept_is_value c.args.table.now.entries c.args.order.now.items c.requires.kept) ∙ c.in-Ok.ensures.1)
+    c.in-Ok-add.ensures.ok
