@@ -1,0 +1,251 @@
+-- The points of odd parity in a grid are the extreme vertices of the places that pass.
+use Rattle.std.proofs.Common.{◌≡◌, ℕ, suc, Bool, true, false, cond, ◌&&◌, List, [], ◌∷◌, map, flat_map, filter, length, ℤ, pos, ◌-ℤ◌, ◌+ℤ◌, ◌≤ℤ◌, ◌<ℤ◌, refl, sym, ap, ap₂, ◌∙◌, arith, int_le, int_lt, int_eq}
+use Rattle.std.specs.List.{list_any, list_all}
+use Rattle.std.proofs.lemmas.Bool.{true≢false, false≢true}
+use Rattle.std.proofs.lemmas.Int.{ints as int_facts}
+use Rattle.evm_cells.specs.Places.{same, each, has, before, ascending}
+use Rattle.evm_cells.specs.Limits.{ints, limit, every_cell, cells_where, is_cell, is_point, is_cell_coord, is_point_coord, IsCellSet}
+use Rattle.evm_cells.specs.Booleans.{xor}
+use Rattle.evm_cells.specs.Vertices.{evm, touch, odd}
+use Rattle.evm_cells.specs.Boxes.{corners}
+use Rattle.evm_cells.specs.Measures.{neighbours}
+use Rattle.evm_cells.proofs.Xor.{xsum, xsum-cons, xsum-nil, xor-false, false-xor, and_first, and_second, and_both, odd-count}
+use Rattle.evm_cells.proofs.Sum.{xsum-append, xsum-map}
+use Rattle.evm_cells.proofs.Order.{rising, refuted}
+use Rattle.evm_cells.proofs.Lists.{all-map, all-flat_map, all_always, all_weaker, any-map, any-flat_map, any_same, any_never, any-and_left, any-and_right, rising-append}
+use Rattle.evm_cells.proofs.Coords.{any-ints, rising-ints, le_yes, lt_yes, le_is, lt_is, cell_yes, point_yes, eq_is}
+use Rattle.evm_cells.proofs.Places.{ascending-rising, has-any, rising_prefixed, before_first}
+use Rattle.evm_cells.proofs.Universe.{same_sets, has-evm, has-cells, odd-around, ascending-evm, ascending-filter, ascending-every_cell, all-every_cell, absorb, cell_from, point_from}
+use Rattle.evm_cells.proofs.Neighbours.{around-neighbours}
+use Rattle.evm_voxels.specs.Samples.{in_sizes}
+use Rattle.evm_voxels.specs.Parity.{turns, grid}
+
+-- no place off the sizes passes
+abbrev pub IsInside : List ℕ → (List ℤ → Bool) → Type 0
+IsInside ms f = (c : List ℤ) → f c ≡ true → in_sizes ms c ≡ true
+
+-- the law of the grid: the points of odd parity are the extreme vertices of the cells that pass
+abbrev pub VerticesOfGrid : Type 0
+VerticesOfGrid = (n : ℕ) (ms : List ℕ) (f : List ℤ → Bool) → length ms ≡ n → list_all (λ m. int_le (pos m) (pos (limit n))) ms ≡ true → IsInside ms f
+    → grid ms (turns f) ≡ evm n (cells_where n f)
+
+-- ---- lists made of layers
+rising_layers : (F : ℤ → List (List ℤ)) (xs : List ℤ) → rising int_lt xs ≡ true → ((x : ℤ) → rising before (F x) ≡ true) → rising before (flat_map (λ x. map (λ t. x ∷ t) (F x)) xs) ≡ true
+unfolding rising
+rising_layers F [] a b = refl
+rising_layers F (x ∷ xs) a b =
+    rising-append before (map (λ t. x ∷ t) (F x)) (flat_map (λ y. map (λ t. y ∷ t) (F y)) xs) (rising_prefixed x (F x) (b x))
+    (rising_layers F xs (and_second (list_all (int_lt x) xs) (rising int_lt xs) a) b)
+    (all-map (λ p. list_all (before p) (flat_map (λ y. map (λ t. y ∷ t) (F y)) xs)) (λ t. x ∷ t) (F x)
+    ∙ all_always (λ t. list_all (before (x ∷ t)) (flat_map (λ y. map (λ u. y ∷ u) (F y)) xs))
+    (λ t. all-flat_map (before (x ∷ t)) (λ y. map (λ u. y ∷ u) (F y)) xs
+    ∙ all_weaker (int_lt x) (λ y. list_all (before (x ∷ t)) (map (λ u. y ∷ u) (F y)))
+    (λ y l. all-map (before (x ∷ t)) (λ u. y ∷ u) (F y) ∙ all_always (λ u. before (x ∷ t) (y ∷ u)) (λ u. before_first x y t u l) (F y))
+    xs (and_first (list_all (int_lt x) xs) (rising int_lt xs) a))
+    (F x))
+
+-- a place in the layers: in that of its first number
+any_layers : (F : ℤ → List (List ℤ)) (xs : List ℤ) (a : ℤ) (c : List ℤ) → list_any (same (a ∷ c)) (flat_map (λ x. map (λ t. x ∷ t) (F x)) xs) ≡ (list_any (int_eq a) xs && list_any (same c) (F a))
+unfolding same each
+any_layers F xs a c =
+    any-flat_map (each int_eq (a ∷ c)) (λ x. map (λ t. x ∷ t) (F x)) xs
+    ∙ any_same (λ x. list_any (each int_eq (a ∷ c)) (map (λ t. x ∷ t) (F x))) (λ x. int_eq a x && list_any (each int_eq c) (F a))
+    (λ x. any-map (each int_eq (a ∷ c)) (λ t. x ∷ t) (F x) ∙ any-and_left (int_eq a x) (each int_eq c) (F x) ∙ at_layer x (int_eq a x) refl) xs
+    ∙ any-and_right (int_eq a) (list_any (each int_eq c) (F a)) xs
+  where
+    at_layer : (x : ℤ) (b : Bool) → int_eq a x ≡ b → (int_eq a x && list_any (each int_eq c) (F x)) ≡ (int_eq a x && list_any (each int_eq c) (F a))
+    at_layer x true e = ap (λ z. int_eq a x && list_any (each int_eq c) (F z)) (sym (eq_is a x e))
+    at_layer x false e = ap (λ b. b && list_any (each int_eq c) (F x)) e ∙ ap (λ b. b && list_any (each int_eq c) (F a)) (sym e)
+
+any_layers_none : (F : ℤ → List (List ℤ)) (xs : List ℤ) → list_any (same []) (flat_map (λ x. map (λ t. x ∷ t) (F x)) xs) ≡ false
+unfolding same each
+any_layers_none F xs =
+    any-flat_map (each int_eq []) (λ x. map (λ t. x ∷ t) (F x)) xs
+    ∙ any_same (λ x. list_any (each int_eq []) (map (λ t. x ∷ t) (F x))) (λ x. false) (λ x. any-map (each int_eq []) (λ t. x ∷ t) (F x) ∙ any_never (F x)) xs
+    ∙ any_never xs
+
+-- ---- the parity as a sum over the neighbours
+pub turns-neighbours : (f : List ℤ → Bool) (p : List ℤ) → xsum f (neighbours p) ≡ turns f p
+unfolding turns neighbours corners
+turns-neighbours f [] = xsum-cons f [] [] ∙ ap (xor (f [])) (xsum-nil f) ∙ xor-false (f [])
+turns-neighbours f (x ∷ p) =
+    xsum-append f (map (λ t. (x -ℤ pos 1) ∷ t) (neighbours p)) (map (λ t. x ∷ t) (neighbours p))
+    ∙ ap₂ xor
+    (xsum-map f (λ t. (x -ℤ pos 1) ∷ t) (neighbours p) ∙ turns-neighbours (λ c. f ((x -ℤ pos 1) ∷ c)) p)
+    (xsum-map f (λ t. x ∷ t) (neighbours p) ∙ turns-neighbours (λ c. f (x ∷ c)) p)
+
+pub turns-same : (f g : List ℤ → Bool) → ((c : List ℤ) → f c ≡ g c) → (p : List ℤ) → turns f p ≡ turns g p
+turns-same f g e p = ap (λ h. turns h p) (λ i c. e c i)
+
+pub turns-none : (p : List ℤ) → turns (λ c. false) p ≡ false
+unfolding turns
+turns-none [] = refl
+turns-none (x ∷ p) = ap₂ xor (turns-none p) (turns-none p) ∙ false-xor false
+
+turns-no : (f : List ℤ → Bool) → ((c : List ℤ) → f c ≡ false) → (p : List ℤ) → turns f p ≡ false
+turns-no f e p = turns-same f (λ c. false) e p ∙ turns-none p
+
+-- ---- the grid ascends, and has the points of the grid that pass
+pub on_sizes : List ℕ → List ℤ → Bool
+on_sizes [] [] = true
+on_sizes [] (x ∷ p) = false
+on_sizes (m ∷ ms) [] = false
+on_sizes (m ∷ ms) (x ∷ p) = (int_le (pos 0) x && int_lt x (pos 0 +ℤ pos (suc m))) && on_sizes ms p
+
+one_or_none : (b : Bool) → rising before (cond b ([] ∷ []) []) ≡ true
+unfolding rising
+one_or_none true = refl
+one_or_none false = refl
+
+rising-grid : (ms : List ℕ) (f : List ℤ → Bool) → rising before (grid ms f) ≡ true
+unfolding grid
+rising-grid [] f = one_or_none (f [])
+rising-grid (m ∷ ms) f = rising_layers (λ x. grid ms (λ c. f (x ∷ c))) (ints (pos 0) (suc m)) (rising-ints (pos 0) (suc m)) (λ x. rising-grid ms (λ c. f (x ∷ c)))
+
+pub ascending-grid : (ms : List ℕ) (f : List ℤ → Bool) → ascending (grid ms f) ≡ true
+ascending-grid ms f = ascending-rising (grid ms f) ∙ rising-grid ms f
+
+any_one : (b : Bool) → list_any (same []) (cond b ([] ∷ []) []) ≡ b
+unfolding same each
+any_one true = refl
+any_one false = refl
+
+any_one_not : (b : Bool) (x : ℤ) (p : List ℤ) → list_any (same (x ∷ p)) (cond b ([] ∷ []) []) ≡ false
+unfolding same each
+any_one_not true x p = refl
+any_one_not false x p = refl
+
+and_assoc3 : (a b c : Bool) → (a && (b && c)) ≡ ((a && b) && c)
+and_assoc3 true b c = refl
+and_assoc3 false b c = refl
+
+any-grid : (ms : List ℕ) (f : List ℤ → Bool) (p : List ℤ) → list_any (same p) (grid ms f) ≡ (on_sizes ms p && f p)
+unfolding grid on_sizes
+any-grid [] f [] = any_one (f [])
+any-grid [] f (x ∷ p) = any_one_not (f []) x p
+any-grid (m ∷ ms) f [] = any_layers_none (λ x. grid ms (λ c. f (x ∷ c))) (ints (pos 0) (suc m))
+any-grid (m ∷ ms) f (x ∷ p) =
+    any_layers (λ x'. grid ms (λ c. f (x' ∷ c))) (ints (pos 0) (suc m)) x p
+    ∙ ap₂ (λ a b. a && b) (any-ints x (pos 0) (suc m)) (any-grid ms (λ c. f (x ∷ c)) p)
+    ∙ and_assoc3 (int_le (pos 0) x && int_lt x (pos 0 +ℤ pos (suc m))) (on_sizes ms p) (f (x ∷ p))
+
+pub has-grid : (ms : List ℕ) (f : List ℤ → Bool) (p : List ℤ) → has (grid ms f) p ≡ (on_sizes ms p && f p)
+has-grid ms f p = has-any (grid ms f) p ∙ any-grid ms f p
+
+-- ---- no point off the grid has an odd parity
+next_in : (x : ℤ) (m : ℕ) → (int_le (pos 0) x && int_lt x (pos 0 +ℤ pos (suc m))) ≡ false → (int_le (pos 0) (x -ℤ pos 1) && int_lt (x -ℤ pos 1) (pos m)) ≡ false
+next_in x m e =
+    refuted (int_le (pos 0) (x -ℤ pos 1) && int_lt (x -ℤ pos 1) (pos m))
+    (λ h. let a : pos 0 ≤ℤ (x -ℤ pos 1) = le_is (pos 0) (x -ℤ pos 1) (and_first (int_le (pos 0) (x -ℤ pos 1)) (int_lt (x -ℤ pos 1) (pos m)) h) in
+    let b : (x -ℤ pos 1) <ℤ pos m = lt_is (x -ℤ pos 1) (pos m) (and_second (int_le (pos 0) (x -ℤ pos 1)) (int_lt (x -ℤ pos 1) (pos m)) h) in
+    true≢false (sym (and_both (int_le (pos 0) x) (int_lt x (pos 0 +ℤ pos (suc m))) (le_yes (pos 0) x (omega (arith, int_facts))) (lt_yes x (pos 0 +ℤ pos (suc m)) (omega (arith, int_facts)))) ∙ e))
+
+this_in : (x : ℤ) (m : ℕ) → (int_le (pos 0) x && int_lt x (pos 0 +ℤ pos (suc m))) ≡ false → (int_le (pos 0) x && int_lt x (pos m)) ≡ false
+this_in x m e =
+    refuted (int_le (pos 0) x && int_lt x (pos m))
+    (λ h. let a : pos 0 ≤ℤ x = le_is (pos 0) x (and_first (int_le (pos 0) x) (int_lt x (pos m)) h) in
+    let b : x <ℤ pos m = lt_is x (pos m) (and_second (int_le (pos 0) x) (int_lt x (pos m)) h) in
+    true≢false (sym (and_both (int_le (pos 0) x) (int_lt x (pos 0 +ℤ pos (suc m))) (le_yes (pos 0) x (omega (arith, int_facts))) (lt_yes x (pos 0 +ℤ pos (suc m)) (omega (arith, int_facts)))) ∙ e))
+
+-- a plane that is out of the grid has no filled cell
+out_of : (m : ℕ) (ms : List ℕ) (f : List ℤ → Bool) → IsInside (m ∷ ms) f → (y : ℤ) → (int_le (pos 0) y && int_lt y (pos m)) ≡ false → (c : List ℤ) → f (y ∷ c) ≡ false
+unfolding in_sizes
+out_of m ms f h y e c = refuted (f (y ∷ c)) (λ k. true≢false (sym (and_first (int_le (pos 0) y && int_lt y (pos m)) (in_sizes ms c) (h (y ∷ c) k)) ∙ e))
+
+within : (m : ℕ) (ms : List ℕ) (f : List ℤ → Bool) → IsInside (m ∷ ms) f → (y : ℤ) → IsInside ms (λ c. f (y ∷ c))
+unfolding in_sizes
+within m ms f h y c k = and_second (int_le (pos 0) y && int_lt y (pos m)) (in_sizes ms c) (h (y ∷ c) k)
+
+pub turns_outside : (ms : List ℕ) (f : List ℤ → Bool) (p : List ℤ) → IsInside ms f → on_sizes ms p ≡ false → turns f p ≡ false
+unfolding on_sizes turns in_sizes
+turns_outside [] f [] h e = absurd (true≢false e)
+turns_outside [] f (x ∷ p) h e =
+    ap₂ xor (turns-no (λ c. f ((x -ℤ pos 1) ∷ c)) (λ c. refuted (f ((x -ℤ pos 1) ∷ c)) (λ k. false≢true (h ((x -ℤ pos 1) ∷ c) k))) p)
+    (turns-no (λ c. f (x ∷ c)) (λ c. refuted (f (x ∷ c)) (λ k. false≢true (h (x ∷ c) k))) p)
+    ∙ false-xor false
+turns_outside (m ∷ ms) f [] h e = refuted (f []) (λ k. false≢true (h [] k))
+turns_outside (m ∷ ms) f (x ∷ p) h e = at_test (int_le (pos 0) x && int_lt x (pos 0 +ℤ pos (suc m))) refl (turns_outside ms (λ c. f ((x -ℤ pos 1) ∷ c)) p) (turns_outside ms (λ c. f (x ∷ c)) p)
+  where
+    at_test : (b : Bool) → (int_le (pos 0) x && int_lt x (pos 0 +ℤ pos (suc m))) ≡ b
+        → (IsInside ms (λ c. f ((x -ℤ pos 1) ∷ c)) → on_sizes ms p ≡ false → turns (λ c. f ((x -ℤ pos 1) ∷ c)) p ≡ false)
+        → (IsInside ms (λ c. f (x ∷ c)) → on_sizes ms p ≡ false → turns (λ c. f (x ∷ c)) p ≡ false)
+        → xor (turns (λ c. f ((x -ℤ pos 1) ∷ c)) p) (turns (λ c. f (x ∷ c)) p) ≡ false
+    at_test false k one two =
+        ap₂ xor (turns-no (λ c. f ((x -ℤ pos 1) ∷ c)) (out_of m ms f h (x -ℤ pos 1) (next_in x m k)) p) (turns-no (λ c. f (x ∷ c)) (out_of m ms f h x (this_in x m k)) p) ∙ false-xor false
+    at_test true k one two =
+        let z : on_sizes ms p ≡ false = ap (λ b. b && on_sizes ms p) (sym k) ∙ e in
+        ap₂ xor (one (within m ms f h (x -ℤ pos 1)) z) (two (within m ms f h x) z) ∙ false-xor false
+
+-- ---- the grid is in the limits
+abbrev size_fits : ℕ → ℕ → Bool
+size_fits n m = int_le (pos m) (pos (limit n))
+
+cell_coords_in : (n : ℕ) (ms : List ℕ) (c : List ℤ) → list_all (size_fits n) ms ≡ true → in_sizes ms c ≡ true → (length c ≡ length ms) × (list_all (is_cell_coord n) c ≡ true)
+unfolding in_sizes
+cell_coords_in n [] [] a h = (refl, refl)
+cell_coords_in n [] (x ∷ c) a h = absurd (false≢true h)
+cell_coords_in n (m ∷ ms) [] a h = absurd (false≢true h)
+cell_coords_in n (m ∷ ms) (x ∷ c) a h =
+    let k = and_first (int_le (pos 0) x && int_lt x (pos m)) (in_sizes ms c) h in
+    let (l, b) = cell_coords_in n ms c (and_second (int_le (pos m) (pos (limit n))) (list_all (size_fits n) ms) a) (and_second (int_le (pos 0) x && int_lt x (pos m)) (in_sizes ms c) h) in
+    let u : pos 0 ≤ℤ x = le_is (pos 0) x (and_first (int_le (pos 0) x) (int_lt x (pos m)) k) in
+    let v : x <ℤ pos m = lt_is x (pos m) (and_second (int_le (pos 0) x) (int_lt x (pos m)) k) in
+    let w : pos m ≤ℤ pos (limit n) = le_is (pos m) (pos (limit n)) (and_first (int_le (pos m) (pos (limit n))) (list_all (size_fits n) ms) a) in
+    (ap suc l, and_both (is_cell_coord n x) (list_all (is_cell_coord n) c) (cell_yes n x (omega (arith, int_facts)) (omega (arith, int_facts))) b)
+
+point_coords_on : (n : ℕ) (ms : List ℕ) (p : List ℤ) → list_all (size_fits n) ms ≡ true → on_sizes ms p ≡ true → (length p ≡ length ms) × (list_all (is_point_coord n) p ≡ true)
+unfolding on_sizes
+point_coords_on n [] [] a h = (refl, refl)
+point_coords_on n [] (x ∷ c) a h = absurd (false≢true h)
+point_coords_on n (m ∷ ms) [] a h = absurd (false≢true h)
+point_coords_on n (m ∷ ms) (x ∷ c) a h =
+    let k = and_first (int_le (pos 0) x && int_lt x (pos 0 +ℤ pos (suc m))) (on_sizes ms c) h in
+    let (l, b) = point_coords_on n ms c (and_second (int_le (pos m) (pos (limit n))) (list_all (size_fits n) ms) a) (and_second (int_le (pos 0) x && int_lt x (pos 0 +ℤ pos (suc m))) (on_sizes ms c) h) in
+    let u : pos 0 ≤ℤ x = le_is (pos 0) x (and_first (int_le (pos 0) x) (int_lt x (pos 0 +ℤ pos (suc m))) k) in
+    let v : x <ℤ (pos 0 +ℤ pos (suc m)) = lt_is x (pos 0 +ℤ pos (suc m)) (and_second (int_le (pos 0) x) (int_lt x (pos 0 +ℤ pos (suc m))) k) in
+    let w : pos m ≤ℤ pos (limit n) = le_is (pos m) (pos (limit n)) (and_first (int_le (pos m) (pos (limit n))) (list_all (size_fits n) ms) a) in
+    (ap suc l, and_both (is_point_coord n x) (list_all (is_point_coord n) c) (point_yes n x (omega (arith, int_facts)) (omega (arith, int_facts))) b)
+
+-- ---- the law
+pub cell_set-where : (n : ℕ) (f : List ℤ → Bool) → IsCellSet n (cells_where n f)
+cell_set-where n f = record { ascends = ascending-filter f (every_cell n) (ascending-every_cell n); cells = kept f (every_cell n) (all-every_cell n) }
+  where
+    kept_one : (b : Bool) (x : List ℤ) (xs : List (List ℤ)) → is_cell n x ≡ true → list_all (is_cell n) xs ≡ true → list_all (is_cell n) (cond b (x ∷ xs) xs) ≡ true
+    kept_one true x xs h k = and_both (is_cell n x) (list_all (is_cell n) xs) h k
+    kept_one false x xs h k = k
+
+    kept : (g : List ℤ → Bool) (xs : List (List ℤ)) → list_all (is_cell n) xs ≡ true → list_all (is_cell n) (filter g xs) ≡ true
+    kept g [] h = refl
+    kept g (x ∷ xs) h = kept_one (g x) x (filter g xs) (and_first (is_cell n x) (list_all (is_cell n) xs) h) (kept g xs (and_second (is_cell n x) (list_all (is_cell n) xs) h))
+
+pub vertices-grid : VerticesOfGrid
+vertices-grid n ms f l a h =
+    same_sets (grid ms (turns f)) (evm n (cells_where n f)) (ascending-grid ms (turns f)) (ascending-evm n (cells_where n f))
+    (λ p. has-grid ms (turns f) p ∙ absorb (on_sizes ms p) (turns f p) (on p)
+    ∙ sym (absorb (is_point n p) (turns f p) (λ k. point_of p (on p k)))
+    ∙ ap (λ b. is_point n p && b) (sym (parity p))
+    ∙ sym (has-evm n (cells_where n f) p))
+  where
+    cells_of : IsCellSet n (cells_where n f)
+    cells_of = cell_set-where n f
+
+    filled : (c : List ℤ) → has (cells_where n f) c ≡ f c
+    filled c = has-cells n f c ∙ absorb (is_cell n c) (f c) (λ k. let (e, b) = cell_coords_in n ms c a (h c k) in cell_from n c (e ∙ l) b)
+
+    parity : (p : List ℤ) → xsum (λ s. each touch s p) (cells_where n f) ≡ turns f p
+    parity p =
+        sym (odd-around (cells_where n f) p)
+        ∙ ap odd (around-neighbours (cells_where n f) p cells_of.ascends)
+        ∙ odd-count (has (cells_where n f)) (neighbours p)
+        ∙ turns-neighbours (has (cells_where n f)) p
+        ∙ turns-same (has (cells_where n f)) f filled p
+
+    on : (p : List ℤ) → turns f p ≡ true → on_sizes ms p ≡ true
+    on p k = at_test (on_sizes ms p) refl
+      where
+        at_test : (b : Bool) → on_sizes ms p ≡ b → on_sizes ms p ≡ true
+        at_test true e = e
+        at_test false e = absurd (true≢false (sym k ∙ turns_outside ms f p h e))
+
+    point_of : (p : List ℤ) → on_sizes ms p ≡ true → is_point n p ≡ true
+    point_of p k = let (e, b) = point_coords_on n ms p a k in point_from n p (e ∙ l) b

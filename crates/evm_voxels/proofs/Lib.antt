@@ -1,0 +1,14 @@
+pub mod GridLaw
+pub mod GridLines
+pub mod Layers
+pub mod GridRows
+pub mod Windows
+pub mod BlockLaws
+pub mod Marking
+pub mod Reading
+pub mod Capped
+pub mod Walking
+pub mod Filled
+pub mod Outcome
+pub mod Params
+pub mod Frames

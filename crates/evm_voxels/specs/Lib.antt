@@ -1,0 +1,11 @@
+pub mod Samples
+pub mod Header
+pub mod Pgm
+pub mod Y4m
+pub mod Parity
+pub mod Marks
+pub mod Shots
+pub mod Grids
+pub mod Blocks
+pub mod Outcomes
+pub mod Streams

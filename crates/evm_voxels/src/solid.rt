@@ -1,0 +1,56 @@
+// The solid of marked images.
+ghost use Rattle.std.specs.Prelude.{◌≡◌, ℕ, List, ◌⊎◌, ◌*◌, ◌≤◌, length, IfOk, IfErr};
+ghost use Rattle.evm_cells.specs.Limits.{limit};
+ghost use Rattle.evm_cells.specs.Vertices.{evm};
+ghost use Rattle.evm_voxels.specs.declared.error.VoxelError.TheVariants.{NoMemory};
+ghost use Rattle.evm_voxels.specs.Samples.{Picture, cells_of_images};
+ghost use Rattle.evm_voxels.specs.Shots.{words_of, AreMarked};
+
+use crate::error::VoxelError;
+use crate::grid::Grid;
+use crate::image::Extent;
+use crate::vertices::{image_vertices, stack_vertices};
+use evm_rows::Solid;
+use std::alloc::Global;
+
+/// The solid of images whose samples are marked. It fails for want of memory alone.
+#[tactic(auto, unfolding(evm_cells::specs::Limits::limit))]
+pub fn solid_of(
+    alloc: Global,
+    dim: usize,
+    marks: &[u32],
+    extent: Extent,
+) -> Result<Solid, VoxelError>
+    requires dim { (dim ≡ 2) ⊎ (dim ≡ 3) }
+    requires width { extent.size.width ≤ limit dim }
+    requires height { extent.size.height ≤ limit dim }
+    requires depth { extent.depth ≤ limit dim }
+    requires some { 1 ≤ extent.depth }
+    requires size { length marks.now ≡ extent.depth * words_of (extent.size.height * extent.size.width) }
+    ensures dim { IfOk result (λ s. s.dim ≡ dim) }
+    ensures rows { (threshold : ℕ) (images : List Picture) → length images ≡ extent.depth → AreMarked marks.now (extent.size.height * extent.size.width) extent.depth threshold images
+        → IfOk result (λ s. s.rows ≡ evm dim (cells_of_images dim threshold extent.size.width extent.size.height images)) }
+    ensures memory { IfErr result (λ e. e ≡ NoMemory) }
+{
+    let width = extent.size.width;
+    let height = extent.size.height;
+    if dim <= 2 {
+        let places = Grid {
+            marks,
+            pitch: width,
+            width,
+            height: 1,
+            depth: height,
+        };
+        Ok(Solid::from_rows(2, image_vertices(alloc, &places)?))
+    } else {
+        let places = Grid {
+            marks,
+            pitch: 32 * (height * width).div_ceil(32),
+            width,
+            height,
+            depth: extent.depth,
+        };
+        Ok(Solid::from_rows(3, stack_vertices(alloc, &places)?))
+    }
+}
