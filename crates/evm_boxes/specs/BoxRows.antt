@@ -1,0 +1,14 @@
+-- What the contracts see of a box row.
+use Rattle.std.specs.Prelude.{◌≡◌, ℕ, true, take}
+use Rattle.evm_cells.specs.Boxes.{is_box}
+use Rattle.evm_boxes.specs.Unions.{Ends}
+use Rattle.evm_boxes.specs.declared.BoxRow.{BoxRow}
+
+-- the two ends of a row: what stands past the dimension is left out
+abbrev pub ends_of : BoxRow → Ends
+ends_of row = record { lo = take row.dim row.lo; hi = take row.dim row.hi }
+
+-- the row is a box of dimension n: its ends are points, and lo is below hi on each axis
+pub record IsBoxRow (n : ℕ) (row : BoxRow) : Type 0 where
+  pub dim : row.dim ≡ n
+  pub box : is_box n (ends_of row).lo (ends_of row).hi ≡ true

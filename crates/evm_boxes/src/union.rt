@@ -1,0 +1,83 @@
+//! Unions of boxes.
+
+ghost use Rattle.std.specs.Prelude.{◌≡◌, ◌<◌, ◌≤◌, map, All, IfOk};
+ghost use Rattle.evm_cells.specs.Boxes.{box_cells};
+ghost use Rattle.evm_cells.specs.Vertices.{evm, cells};
+ghost use Rattle.evm_boxes.specs.Unions.{union_of};
+ghost use Rattle.evm_boxes.specs.BoxRows.{ends_of, IsBoxRow};
+
+use super::BoxRow;
+use evm_boolean::{Op2, combine};
+use evm_rows::{BoxError, NoMemory, Solid};
+use std::alloc::Global;
+
+/// The union of boxes of dimension `dim`, each with room on each axis and within the limits. Without boxes it is empty.
+///
+/// The boxes are sorted by their lower corners, divided into halves, and the unions of the halves united, and so on. So a
+/// box takes part in as many unions as the number of boxes can be halved, each with its neighbours.
+///
+/// It takes memory for a copy of the boxes, 56 bytes each; for one finished union for each halving, which waits for that
+/// of the other half; and for what the union of two solids takes. The one error is want of memory.
+pub fn join(alloc: Global, dim: usize, boxes: &[BoxRow]) -> Result<Solid, NoMemory>
+    requires low { 0 < dim }
+    requires high { dim ≤ 6 }
+    requires boxes { All (IsBoxRow dim) boxes.now }
+    ensures dim { IfOk result (λ s. s.dim ≡ dim) }
+    ensures rows { IfOk result (λ s. s.rows ≡ evm dim (union_of dim (map ends_of boxes.now))) }
+    ensures cells { IfOk result (λ s. cells s.dim s.rows ≡ union_of dim (map ends_of boxes.now)) }
+{
+    match Vec::from_slice(alloc, boxes) {
+        Ok(rows) => join_rows(alloc, dim, rows),
+        Err(_) => Err(NoMemory),
+    }
+}
+
+/// The union of boxes that it may put into another order.
+pub(crate) fn join_rows(alloc: Global, dim: usize, mut rows: Vec<BoxRow>) -> Result<Solid, NoMemory>
+    requires low { 0 < dim }
+    requires high { dim ≤ 6 }
+    requires boxes { All (IsBoxRow dim) rows.items }
+    ensures dim { IfOk result (λ s. s.dim ≡ dim) }
+    ensures rows { IfOk result (λ s. s.rows ≡ evm dim (union_of dim (map ends_of rows.items))) }
+    ensures cells { IfOk result (λ s. cells s.dim s.rows ≡ union_of dim (map ends_of rows.items)) }
+{
+    rows.sort_unstable();
+    let all = unite(alloc, dim, rows.as_slice())?;
+    Ok(all)
+}
+
+/// The union of boxes, by halves.
+fn unite(alloc: Global, dim: usize, boxes: &[BoxRow]) -> Result<Solid, NoMemory>
+    requires low { 0 < dim }
+    requires high { dim ≤ 6 }
+    requires boxes { All (IsBoxRow dim) boxes.now }
+    ensures dim { IfOk result (λ s. s.dim ≡ dim) }
+    ensures rows { IfOk result (λ s. s.rows ≡ evm dim (union_of dim (map ends_of boxes.now))) }
+{
+    match boxes {
+        [] => Ok(Solid::empty(alloc, dim)),
+        [row] => solid_of(alloc, row),
+        _ => {
+            let (front, back) = boxes.split_at(boxes.len() / 2);
+            let left = unite(alloc, dim, front)?;
+            let right = unite(alloc, dim, back)?;
+            let both = combine(alloc, Op2::Or, left.rows(), right.rows())?;
+            Ok(both)
+        }
+    }
+}
+
+/// One box.
+fn solid_of(alloc: Global, row: &BoxRow) -> Result<Solid, NoMemory>
+    requires low { 0 < row.now.dim }
+    requires high { row.now.dim ≤ 6 }
+    requires is_box { IsBoxRow row.now.dim row.now }
+    ensures dim { IfOk result (λ s. s.dim ≡ row.now.dim) }
+    ensures rows { IfOk result (λ s. s.rows ≡ evm row.now.dim (box_cells row.now.dim (ends_of row.now).lo (ends_of row.now).hi)) }
+{
+    match Solid::of_box(alloc, &row.lo[..row.dim], &row.hi[..row.dim]) {
+        Ok(solid) => Ok(solid),
+        Err(BoxError::NoMemory) => Err(NoMemory),
+        Err(BoxError::Range) => unreachable!(),
+    }
+}
