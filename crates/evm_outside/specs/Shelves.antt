@@ -35,9 +35,9 @@ is_file_name name =
 abbrev pub Files : Type 0
 Files = map.FinMap (slice_cmp nat_cmp) (List ℕ)
 
--- told files stay as they are
+-- told files stay as they are, and files that are not told are not told afterwards
 abbrev pub KeepsFiles : Option Files → Option Files → Type 0
-KeepsFiles None after = Unit {0}
+KeepsFiles None after = after ≡ None
 KeepsFiles (Some files) None = ⊥
 KeepsFiles (Some files) (Some after) = after ≡ files
 
@@ -48,7 +48,7 @@ HasFile (Some files) name bytes = map.get files name ≡ bytes
 
 -- told files get these bytes under the name, and each other name keeps its own
 abbrev pub PlacesFile : Option Files → Option Files → List ℕ → List ℕ → Type 0
-PlacesFile None after name bytes = Unit {0}
+PlacesFile None after name bytes = after ≡ None
 PlacesFile (Some files) None name bytes = ⊥
 PlacesFile (Some files) (Some after) name bytes = after ≡ map.insert files name bytes
 

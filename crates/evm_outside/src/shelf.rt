@@ -62,7 +62,7 @@ pub enum PlaceError {
 ///
 /// Both calls take a file name by the rule that [`is_file_name`] tests.
 pub trait Shelf {
-    /// The files, where they are known.
+    /// The files, where they are known. Whether they are never changes.
     ghost files: { Self → Option Files };
 
     /// How many calls failed, up to the last value of a 64-bit counter.
