@@ -4,18 +4,22 @@ use Rattle.std.specs.Prelude.{option_map}
 use Rattle.std.specs.Option.{option_zip}
 use Rattle.std.specs.Fmt.{signed_decimal}
 use Rattle.std.specs.List.{list_all}
+use Rattle.evm_outside.specs.Shelves.{is_file_name}
 use Rattle.evm_script.specs.Words.{words, is_name, in_number_range, keeps_nums, line_max}
 use Rattle.evm_script.specs.Shapes.{of_pair, of_three}
 use Rattle.evm_script.specs.Formulas.{formula_of}
 use Rattle.evm_script.specs.Line.{command, command_of_words, form_of, or_syntax}
-use Rattle.evm_script.specs.Printed.{spaced, printed, formula_words, FormulaKeepsRules, KeepsRules, IsReadAgain}
+use Rattle.evm_script.specs.Printed.{spaced, printed, formula_words, load_words, save_words, FormulaKeepsRules, FormKeepsRules, KeepsRules, IsReadAgain}
 use Rattle.evm_script.specs.declared.command.Command.{Command}
 use Rattle.evm_script.specs.declared.command.Command.TheVariants as commands
 use Rattle.evm_script.specs.declared.command.LineError.TheVariants.{Long}
+use Rattle.evm_script.specs.declared.files.LoadForm.{LoadForm}
+use Rattle.evm_script.specs.declared.files.SaveForm.{SaveForm}
 use Rattle.evm_script.specs.declared.formula.Formula.{Formula}
 use Rattle.evm_script.proofs.Spaced.{is_plain, words_spaced, no_cr_spaced, short_spaced}
-use Rattle.evm_script.proofs.ShapesAgain.{named_plain, one_plain, two_plain, plain_nums, few_nums, name_again, name_number_again, name_two_again, name_numbers_again}
+use Rattle.evm_script.proofs.ShapesAgain.{named_plain, one_plain, two_plain, plain_nums, few_nums, name_again, name_number_again, name_two_again, name_numbers_again, zip_again}
 use Rattle.evm_script.proofs.FormulasAgain.{words_of_formula}
+use Rattle.evm_script.proofs.FilesAgain.{words_of_load, words_of_save}
 
 -- a line of plain words is the command of these words
 read_spaced : (ws : List (List ℕ)) → list_all is_plain ws ≡ true → length ws ≤ 20 → command (spaced ws) ≡ command_of_words ws
@@ -50,6 +54,21 @@ definition_again name f h k =
     ∙ ap (λ (o : Option (List ℕ)). or_syntax (option_map (of_pair commands.Def) (option_zip o (formula_of (formula_words f))))) (name_again name h)
     ∙ ap (λ (o : Option Formula). or_syntax (option_map (of_pair commands.Def) (option_zip (Some name) o))) again.read
 
+-- a load and a save
+load_again : (name : List ℕ) (form : LoadForm) (file : List ℕ) → is_name name ≡ true → FormKeepsRules form → is_file_name file ≡ true → IsReadAgain (commands.Load name form file)
+unfolding form_of
+load_again name form file h k i =
+    let again = words_of_load form file k i in
+    read_named (codes "load") name (load_words form file) refl h again.plain (omega (arith, again.few))
+    ∙ ap (λ (o : Option (List ℕ × (LoadForm × List ℕ))). or_syntax (option_map (of_three commands.Load) o)) (zip_again name (form, file) (name_again name h) again.read)
+
+save_again : (name : List ℕ) (form : SaveForm) (file : List ℕ) → is_name name ≡ true → is_file_name file ≡ true → IsReadAgain (commands.Save name form file)
+unfolding form_of
+save_again name form file h k =
+    let again = words_of_save form file k in
+    read_named (codes "save") name (save_words form file) refl h again.plain (omega (arith, again.few))
+    ∙ ap (λ (o : Option (List ℕ × (SaveForm × List ℕ))). or_syntax (option_map (of_three commands.Save) o)) (zip_again name (form, file) (name_again name h) again.read)
+
 -- each command
 pub read_again : (c : Command) → KeepsRules c → IsReadAgain c
 unfolding form_of
@@ -66,6 +85,7 @@ read_again (commands.Add name nums) h =
 read_again (commands.Cut name nums) h =
     with_numbers (codes "cut") name nums refl h.0 h.1
     ∙ ap (λ (o : Option (List ℕ × List ℤ)). or_syntax (option_map (of_pair commands.Cut) o)) (name_numbers_again name nums h.0 h.1)
+read_again (commands.Load name form file) h = load_again name form file h.0 h.1 h.2
 read_again (commands.Def name formula) h = definition_again name formula h.0 h.1
 read_again (commands.Drop name) h =
     with_name (codes "drop") name refl h ∙ ap (λ (o : Option (List ℕ)). or_syntax (option_map commands.Drop o)) (name_again name h)
@@ -88,6 +108,7 @@ read_again (commands.Section name axis at) h =
 read_again (commands.Project name axis) h =
     with_number (codes "project") name axis refl h.0 h.1
     ∙ ap (λ (o : Option (List ℕ × ℤ)). or_syntax (option_map (of_pair commands.Project) o)) (name_number_again name axis h.0 h.1)
+read_again (commands.Save name form file) h = save_again name form file h.0 h.1
 read_again commands.List h = read_spaced (codes "list" ∷ []) refl (omega arith)
 
 -- commands with one text are one command

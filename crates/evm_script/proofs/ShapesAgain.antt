@@ -62,7 +62,7 @@ some_again : (ns : List ℤ) → keeps_nums ns ≡ true → some_numbers (number
 some_again ns h = ap some_numbers (numbers_again ns (nums_parts ns h).1) ∙ ap (λ (b : Bool). if b then Some ns else None) (nums_parts ns h).0
 
 -- two parts, each read again
-zip_again : {A B : Type 0} {o : Option A} {p : Option B} (a : A) (b : B) → o ≡ Some a → p ≡ Some b → option_zip o p ≡ Some (a, b)
+pub zip_again : {A B : Type 0} {o : Option A} {p : Option B} (a : A) (b : B) → o ≡ Some a → p ≡ Some b → option_zip o p ≡ Some (a, b)
 zip_again {p} a b h k = ap (λ o. option_zip o p) h ∙ ap (option_zip (Some a)) k
 
 pub name_number_again : (name : List ℕ) (n : ℤ) → is_name name ≡ true → in_number_range n ≡ true → name_number (name ∷ signed_decimal n ∷ []) ≡ Some (name, n)

@@ -2,11 +2,16 @@
 use Rattle.std.specs.Prelude.{ℕ, ◌≡◌, true, List, [], ◌∷◌, map, Some, Ok, codes}
 use Rattle.std.specs.List.{join_with_byte}
 use Rattle.std.specs.Fmt.{signed_decimal}
+use Rattle.evm_outside.specs.Shelves.{is_file_name}
 use Rattle.evm_script.specs.Words.{words, is_name, in_number_range, keeps_nums}
 use Rattle.evm_script.specs.Formulas.{formula_of}
 use Rattle.evm_script.specs.Line.{command}
 use Rattle.evm_script.specs.declared.command.Command.{Command}
 use Rattle.evm_script.specs.declared.command.Command.TheVariants as commands
+use Rattle.evm_script.specs.declared.files.LoadForm.{LoadForm}
+use Rattle.evm_script.specs.declared.files.LoadForm.TheVariants as forms
+use Rattle.evm_script.specs.declared.files.SaveForm.{SaveForm}
+use Rattle.evm_script.specs.declared.files.SaveForm.TheVariants as saves
 use Rattle.evm_script.specs.declared.formula.Formula.{Formula}
 use Rattle.evm_script.specs.declared.formula.Formula.TheVariants as formulas
 
@@ -29,6 +34,17 @@ formula_words (formulas.Slice a axis at) = codes "slice" ∷ a ∷ signed_decima
 formula_words (formulas.Proj a axis) = codes "proj" ∷ a ∷ signed_decimal axis ∷ []
 formula_words (formulas.Lift a axis lo hi) = codes "lift" ∷ a ∷ signed_decimal axis ∷ signed_decimal lo ∷ signed_decimal hi ∷ []
 
+-- the words of a form and a file, as they stand after `load NAME`
+abbrev pub load_words : LoadForm → List ℕ → List (List ℕ)
+load_words forms.Evm file = codes "evm" ∷ file ∷ []
+load_words forms.Boxes file = codes "boxes" ∷ file ∷ []
+load_words (forms.Pgm threshold) file = codes "pgm" ∷ signed_decimal threshold ∷ file ∷ []
+load_words (forms.Y4m threshold) file = codes "y4m" ∷ signed_decimal threshold ∷ file ∷ []
+
+-- the words of a form and a file, as they stand after `save NAME`
+abbrev pub save_words : SaveForm → List ℕ → List (List ℕ)
+save_words saves.Evm file = codes "evm" ∷ file ∷ []
+
 -- the words of a command, each number in plain decimal
 abbrev pub command_words : Command → List (List ℕ)
 command_words commands.Blank = []
@@ -36,6 +52,7 @@ command_words (commands.Input name dim) = codes "input" ∷ name ∷ signed_deci
 command_words (commands.Toggle name nums) = codes "toggle" ∷ name ∷ map signed_decimal nums
 command_words (commands.Add name nums) = codes "add" ∷ name ∷ map signed_decimal nums
 command_words (commands.Cut name nums) = codes "cut" ∷ name ∷ map signed_decimal nums
+command_words (commands.Load name form file) = codes "load" ∷ name ∷ load_words form file
 command_words (commands.Def name formula) = codes "def" ∷ name ∷ formula_words formula
 command_words (commands.Drop name) = codes "drop" ∷ name ∷ []
 command_words (commands.Show name) = codes "show" ∷ name ∷ []
@@ -45,6 +62,7 @@ command_words (commands.At name nums) = codes "at" ∷ name ∷ map signed_decim
 command_words (commands.Point name nums) = codes "point" ∷ name ∷ map signed_decimal nums
 command_words (commands.Section name axis at) = codes "section" ∷ name ∷ signed_decimal axis ∷ signed_decimal at ∷ []
 command_words (commands.Project name axis) = codes "project" ∷ name ∷ signed_decimal axis ∷ []
+command_words (commands.Save name form file) = codes "save" ∷ name ∷ save_words form file
 command_words commands.List = codes "list" ∷ []
 
 -- the text of a command, without a line feed
@@ -67,13 +85,21 @@ FormulaKeepsRules (formulas.Proj a axis) = (is_name a ≡ true) × (in_number_ra
 FormulaKeepsRules (formulas.Lift a axis lo hi) =
     (is_name a ≡ true) × (in_number_range axis ≡ true) × (in_number_range lo ≡ true) × (in_number_range hi ≡ true)
 
--- a command whose names and numbers keep their rules
+-- a form whose threshold, if it has one, keeps the rule of numbers
+abbrev pub FormKeepsRules : LoadForm → Type 0
+FormKeepsRules forms.Evm = Unit {0}
+FormKeepsRules forms.Boxes = Unit {0}
+FormKeepsRules (forms.Pgm threshold) = in_number_range threshold ≡ true
+FormKeepsRules (forms.Y4m threshold) = in_number_range threshold ≡ true
+
+-- a command whose names, numbers and files keep their rules
 abbrev pub KeepsRules : Command → Type 0
 KeepsRules commands.Blank = Unit {0}
 KeepsRules (commands.Input name dim) = (is_name name ≡ true) × (in_number_range dim ≡ true)
 KeepsRules (commands.Toggle name nums) = (is_name name ≡ true) × (keeps_nums nums ≡ true)
 KeepsRules (commands.Add name nums) = (is_name name ≡ true) × (keeps_nums nums ≡ true)
 KeepsRules (commands.Cut name nums) = (is_name name ≡ true) × (keeps_nums nums ≡ true)
+KeepsRules (commands.Load name form file) = (is_name name ≡ true) × FormKeepsRules form × (is_file_name file ≡ true)
 KeepsRules (commands.Def name formula) = (is_name name ≡ true) × FormulaKeepsRules formula
 KeepsRules (commands.Drop name) = is_name name ≡ true
 KeepsRules (commands.Show name) = is_name name ≡ true
@@ -83,6 +109,7 @@ KeepsRules (commands.At name nums) = (is_name name ≡ true) × (keeps_nums nums
 KeepsRules (commands.Point name nums) = (is_name name ≡ true) × (keeps_nums nums ≡ true)
 KeepsRules (commands.Section name axis at) = (is_name name ≡ true) × (in_number_range axis ≡ true) × (in_number_range at ≡ true)
 KeepsRules (commands.Project name axis) = (is_name name ≡ true) × (in_number_range axis ≡ true)
+KeepsRules (commands.Save name form file) = (is_name name ≡ true) × (is_file_name file ≡ true)
 KeepsRules commands.List = Unit {0}
 
 -- a command's text is a line that is read as this command

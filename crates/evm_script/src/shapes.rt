@@ -127,7 +127,7 @@ fn read_numbers(words: &[&[u8]]) -> Option<Nums>
 
 /// A number: digits, with a minus sign before them or without.
 #[tactic(auto, unfolding(crate::specs::Words::number))]
-fn read_number(word: &[u8]) -> Option<Num>
+pub(crate) fn read_number(word: &[u8]) -> Option<Num>
     ensures { result ≡ number word.now }
 {
     match word {

@@ -4,52 +4,48 @@ use super::*;
 use std::test::Fail;
 
 #[test]
-fn reads_each_form(rt: HostRuntime) -> Result<(), Fail> {
+fn reads_each_edit(rt: HostRuntime) -> Result<(), Fail> {
     let name = Name::of(b"a_1").ok_or("name")?;
     let dim = Num::of(2).ok_or("number")?;
     let nums = Nums::of(&[0, -9_999_999_999, 10]).ok_or("numbers")?;
     let cases = [
-        ("", Ok(Command::Blank)),
-        (" #toggle a", Ok(Command::Blank)),
-        ("input a_1 2", Ok(Command::Input { name, dim })),
-        (
-            "toggle a_1 -0 -9999999999 10",
-            Ok(Command::Toggle { name, nums }),
-        ),
+        ("", Command::Blank),
+        (" #toggle a", Command::Blank),
+        ("input a_1 2", Command::Input { name, dim }),
+        ("cut a_1 -0 -9999999999 10", Command::Cut { name, nums }),
         (
             " add\ta_1 0  -9999999999\t0000000010 \r",
-            Ok(Command::Add { name, nums }),
+            Command::Add { name, nums },
         ),
-        ("cut a_1 0 -9999999999 10", Ok(Command::Cut { name, nums })),
-        ("show a_1", Ok(Command::Show { name })),
-        ("content a_1", Ok(Command::Content { name })),
-        ("boundary a_1", Ok(Command::Boundary { name })),
-        ("at a_1 0 -9999999999 10", Ok(Command::At { name, nums })),
         (
-            "point a_1 0 -9999999999 10",
-            Ok(Command::Point { name, nums }),
+            "toggle a_1 0 -9999999999 10",
+            Command::Toggle { name, nums },
         ),
-        ("drop a_1", Ok(Command::Drop { name })),
-        (
-            "section a_1 2 2",
-            Ok(Command::Section {
-                name,
-                axis: dim,
-                at: dim,
-            }),
-        ),
-        ("project a_1 2", Ok(Command::Project { name, axis: dim })),
-        (" list ", Ok(Command::List)),
-        ("list a_1", Err(LineError::Syntax)),
-        ("show A", Err(LineError::Syntax)),
-        ("input a_1 00000000002", Err(LineError::Syntax)),
-        (
-            "cut a_1 1 2 3 4 5 6 7 8 9 10 11 12 13",
-            Err(LineError::Syntax),
-        ),
+        ("drop a_1", Command::Drop { name }),
     ];
     for (line, want) in cases {
-        assert_eq!(rt; read_line(rt.alloc(), line.as_bytes()), want, "{line}");
+        assert_eq!(rt; read_line(rt.alloc(), line.as_bytes()), Ok(want), "{line}");
+    }
+    Ok(())
+}
+
+#[test]
+fn reads_each_question(rt: HostRuntime) -> Result<(), Fail> {
+    let name = Name::of(b"a_1").ok_or("name")?;
+    let nums = Nums::of(&[4, -5]).ok_or("numbers")?;
+    let (axis, at) = (Num::within(2), Num::within(-3));
+    let cases = [
+        ("show a_1", Command::Show { name }),
+        ("content a_1", Command::Content { name }),
+        ("boundary a_1", Command::Boundary { name }),
+        ("at a_1 4 -5", Command::At { name, nums }),
+        ("point a_1 4 -5", Command::Point { name, nums }),
+        ("section a_1 2 -3", Command::Section { name, axis, at }),
+        ("project a_1 2", Command::Project { name, axis }),
+        (" list ", Command::List),
+    ];
+    for (line, want) in cases {
+        assert_eq!(rt; read_line(rt.alloc(), line.as_bytes()), Ok(want), "{line}");
     }
     Ok(())
 }
@@ -59,53 +55,97 @@ fn reads_each_formula(rt: HostRuntime) -> Result<(), Fail> {
     let name = Name::of(b"n").ok_or("name")?;
     let a = Name::of(b"a").ok_or("name")?;
     let b = Name::of(b"b2").ok_or("name")?;
-    let dim = Num::of(2).ok_or("number")?;
-    let (one, lo) = (Num::within(1), Num::within(-3));
     let nums = Nums::of(&[0, -1, 3, 4]).ok_or("numbers")?;
+    let (axis, at) = (Num::within(1), Num::within(-3));
+    let (i, j, lo, hi, dim) = (axis, at, at, axis, axis);
     let cases = [
-        ("def n or a b2", Some(Formula::Or { a, b })),
-        ("def  n\tand a b2", Some(Formula::And { a, b })),
-        ("def n sub a b2", Some(Formula::Sub { a, b })),
-        ("def n xor a b2", Some(Formula::Xor { a, b })),
-        ("def n box 2 0 -1 3 4", Some(Formula::Box { dim, nums })),
-        ("def n shift a 0 -1 3 4", Some(Formula::Shift { a, nums })),
-        ("def n mirror a 1", Some(Formula::Mirror { a, axis: one })),
-        (
-            "def n swap a 1 2",
-            Some(Formula::Swap { a, i: one, j: dim }),
-        ),
-        ("def n clip a 0 -1 3 4", Some(Formula::Clip { a, nums })),
-        (
-            "def n slice a 1 2",
-            Some(Formula::Slice {
-                a,
-                axis: one,
-                at: dim,
-            }),
-        ),
-        ("def n proj a 2", Some(Formula::Proj { a, axis: dim })),
-        (
-            "def n lift a 2 -3 1",
-            Some(Formula::Lift {
-                a,
-                axis: dim,
-                lo,
-                hi: one,
-            }),
-        ),
-        ("def n lift a 2 -3", None),
-        ("def n slice a 1 2 3", None),
-        ("def n box 0", None),
-        ("def n sub a", None),
-        ("def n sub a b2 a", None),
-        ("def n", None),
-        ("def n nor a b2", None),
+        ("def n or a b2", Formula::Or { a, b }),
+        ("def  n\tand a b2", Formula::And { a, b }),
+        ("def n sub a b2", Formula::Sub { a, b }),
+        ("def n xor a b2", Formula::Xor { a, b }),
+        ("def n box 1 0 -1 3 4", Formula::Box { dim, nums }),
+        ("def n shift a 0 -1 3 4", Formula::Shift { a, nums }),
+        ("def n mirror a 1", Formula::Mirror { a, axis }),
+        ("def n swap a 1 -3", Formula::Swap { a, i, j }),
+        ("def n clip a 0 -1 3 4", Formula::Clip { a, nums }),
+        ("def n slice a 1 -3", Formula::Slice { a, axis, at }),
+        ("def n proj a 1", Formula::Proj { a, axis }),
+        ("def n lift a 1 -3 1", Formula::Lift { a, axis, lo, hi }),
     ];
-    for (line, want) in cases {
-        let command = want.map(|formula| Command::Def { name, formula });
-        let want = command.ok_or(LineError::Syntax);
+    for (line, formula) in cases {
+        let want = Ok(Command::Def { name, formula });
         assert_eq!(rt; read_line(rt.alloc(), line.as_bytes()), want, "{line}");
     }
+    Ok(())
+}
+
+#[test]
+fn reads_each_form_of_a_file(rt: HostRuntime) -> Result<(), Fail> {
+    let name = Name::of(b"a_1").ok_or("name")?;
+    let threshold = Num::within(-7);
+    let file = FileName::of(b"Vox-1.t_x").ok_or("file")?;
+    let cases = [
+        ("load a_1 evm Vox-1.t_x", LoadForm::Evm),
+        ("load\ta_1 boxes  Vox-1.t_x", LoadForm::Boxes),
+        ("load a_1 pgm -7 Vox-1.t_x", LoadForm::Pgm(threshold)),
+        ("load a_1 y4m -07 Vox-1.t_x", LoadForm::Y4m(threshold)),
+    ];
+    for (line, form) in cases {
+        let want = Ok(Command::Load { name, form, file });
+        assert_eq!(rt; read_line(rt.alloc(), line.as_bytes()), want, "{line}");
+    }
+    let form = SaveForm::Evm;
+    let save = Command::Save { name, form, file };
+    let text = write_line(rt.alloc(), &save)?;
+    assert_eq!(rt; text.as_slice(), b"save a_1 evm Vox-1.t_x".as_slice());
+    assert_eq!(rt; read_line(rt.alloc(), text.as_slice()), Ok(save));
+    let form = LoadForm::Pgm(threshold);
+    let text = write_line(rt.alloc(), &Command::Load { name, form, file })?;
+    assert_eq!(rt; text.as_slice(), b"load a_1 pgm -7 Vox-1.t_x".as_slice());
+    Ok(())
+}
+
+#[test]
+fn refuses_other_lines(rt: HostRuntime) -> Result<(), Fail> {
+    let lines = [
+        "list a_1",
+        "show A",
+        "input a_1 00000000002",
+        "cut a_1 1 2 3 4 5 6 7 8 9 10 11 12 13",
+        "def n lift a 2 -3",
+        "def n slice a 1 2 3",
+        "def n box 0",
+        "def n sub a",
+        "def n sub a b2 a",
+        "def n",
+        "def n nor a b2",
+        "load a evm",
+        "load a evm .hidden",
+        "load a boxes a/b",
+        "load a pgm 7",
+        "load a y4m 1 f g",
+        "load a obj f",
+        "save a boxes f",
+        "save a evm f g",
+    ];
+    for line in lines {
+        let answer = read_line(rt.alloc(), line.as_bytes());
+        assert_eq!(rt; answer, Err(LineError::Syntax), "{line}");
+    }
+    Ok(())
+}
+
+#[test]
+fn keeps_the_rule_of_file_names(rt: HostRuntime) -> Result<(), Fail> {
+    let longest = [b'x'; 64];
+    let file = FileName::of(&longest).ok_or("file")?;
+    assert_eq!(rt; file.len(), 64);
+    assert_eq!(rt; file.byte(63), b'x');
+    assert_eq!(rt; file.bytes(), longest.as_slice());
+    assert!(rt; FileName::of(&[b'x'; 65]).is_none());
+    assert!(rt; FileName::of(b"").is_none());
+    assert!(rt; FileName::of(b".hidden").is_none());
+    assert!(rt; FileName::of(b"a/b").is_none());
     Ok(())
 }
 

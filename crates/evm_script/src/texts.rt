@@ -3,10 +3,12 @@
 ghost use Rattle.std.specs.Prelude.{◌≡◌, ◌++◌, [], ◌∷◌, map, OnOk, true};
 ghost use Rattle.std.specs.List.{flat_map};
 ghost use Rattle.std.specs.Fmt.{signed_decimal};
+ghost use Rattle.evm_outside.specs.Shelves.{is_file_name};
 ghost use Rattle.evm_script.specs.Words.{is_name, in_number_range, keeps_nums};
 ghost use Rattle.evm_script.specs.Printed.{spaced};
 
 use super::command::NoMemory;
+use super::files::FileName;
 use super::names::Name;
 use super::numbers::{Num, Nums};
 use std::io::Write;
@@ -113,6 +115,64 @@ pub(crate) fn put_two_names(
 {
     let bytes = b.bytes();
     put_name(text, first, a)?;
+    text.push(b' ')?;
+    text.extend_from_slice(bytes)?;
+    Ok(())
+}
+
+/// Appends a first word, a name, the word of a form and a file.
+pub(crate) fn put_form_file(
+    text: &mut Vec<u8>,
+    first: &[u8],
+    name: &Name,
+    form: &[u8],
+    file: &FileName,
+) -> Result<(), NoMemory>
+    ensures text { OnOk result (text.new.items ≡ text.old.items ++ spaced (first.now ∷ name.now ∷ form.now ∷ file.now ∷ [])) }
+    ensures rule { OnOk result (is_name name.now ≡ true) }
+    ensures file_rule { OnOk result (is_file_name file.now ≡ true) }
+{
+    put_name_word(text, first, name, form)?;
+    put_file(text, file)
+}
+
+/// Appends a first word, a name, the word of a form, a threshold and a file.
+pub(crate) fn put_threshold_file(
+    text: &mut Vec<u8>,
+    first: &[u8],
+    name: &Name,
+    form: &[u8],
+    threshold: &Num,
+    file: &FileName,
+) -> Result<(), NoMemory>
+    ensures text { OnOk result (text.new.items ≡ text.old.items ++ spaced (first.now ∷ name.now ∷ form.now ∷ signed_decimal threshold.now ∷ file.now ∷ [])) }
+    ensures rule { OnOk result (is_name name.now ≡ true) }
+    ensures range { OnOk result (in_number_range threshold.now ≡ true) }
+    ensures file_rule { OnOk result (is_file_name file.now ≡ true) }
+{
+    let value = threshold.value();
+    put_name_word(text, first, name, form)?;
+    put_number(text, value)?;
+    put_file(text, file)
+}
+
+/// Appends a first word, a name and a word.
+fn put_name_word(text: &mut Vec<u8>, first: &[u8], name: &Name, word: &[u8]) -> Result<(), NoMemory>
+    ensures text { OnOk result (text.new.items ≡ text.old.items ++ spaced (first.now ∷ name.now ∷ word.now ∷ [])) }
+    ensures rule { OnOk result (is_name name.now ≡ true) }
+{
+    put_name(text, first, name)?;
+    text.push(b' ')?;
+    text.extend_from_slice(word)?;
+    Ok(())
+}
+
+/// Appends a space and a file.
+fn put_file(text: &mut Vec<u8>, file: &FileName) -> Result<(), NoMemory>
+    ensures text { OnOk result (text.new.items ≡ text.old.items ++ 32 ∷ file.now) }
+    ensures rule { OnOk result (is_file_name file.now ≡ true) }
+{
+    let bytes = file.bytes();
     text.push(b' ')?;
     text.extend_from_slice(bytes)?;
     Ok(())

@@ -1,19 +1,21 @@
 //! Prints a command as a line, and a formula as its words.
 
 ghost use Rattle.std.specs.Prelude.{◌≡◌, ◌++◌, ◌∷◌, IfOk, OnOk, Some, Ok, codes, true};
+ghost use Rattle.evm_outside.specs.Shelves.{is_file_name};
 ghost use Rattle.evm_script.specs.Words.{words, is_name};
 ghost use Rattle.evm_script.specs.Formulas.{formula_of};
 ghost use Rattle.evm_script.specs.Line.{command as line_command};
-ghost use Rattle.evm_script.specs.Printed.{printed, spaced, formula_words, FormulaKeepsRules, KeepsRules, IsReadAgain, IsFormulaAgain};
+ghost use Rattle.evm_script.specs.Printed.{printed, spaced, formula_words, load_words, save_words, FormulaKeepsRules, FormKeepsRules, KeepsRules, IsReadAgain, IsFormulaAgain};
 ghost use Rattle.evm_script.specs.declared.command.Command as commands;
 ghost use Rattle.evm_script.specs.declared.formula.Formula as formulas;
 
 use super::command::{Command, NoMemory};
+use super::files::{FileName, LoadForm, SaveForm};
 use super::formula::Formula;
 use super::names::Name;
 use super::texts::{
-    put_name, put_name_number, put_name_numbers, put_name_three, put_name_two, put_number_numbers,
-    put_two_names, put_word,
+    put_form_file, put_name, put_name_number, put_name_numbers, put_name_three, put_name_two,
+    put_number_numbers, put_threshold_file, put_two_names, put_word,
 };
 use std::alloc::Global;
 
@@ -53,7 +55,7 @@ pub fn write_formula(alloc: Global, formula: &Formula) -> Result<Vec<u8>, NoMemo
     Ok(text)
 }
 
-/// Appends the text of a command, whose names and numbers keep their rules.
+/// Appends the text of a command, whose names, numbers and files keep their rules.
 fn put_command(text: &mut Vec<u8>, command: &Command) -> Result<(), NoMemory>
     ensures text { OnOk result (text.new.items ≡ text.old.items ++ printed command.now) }
     ensures rules { OnOk result (KeepsRules command.now) }
@@ -64,6 +66,7 @@ fn put_command(text: &mut Vec<u8>, command: &Command) -> Result<(), NoMemory>
         Command::Toggle { name, nums } => put_name_numbers(text, b"toggle", name, nums),
         Command::Add { name, nums } => put_name_numbers(text, b"add", name, nums),
         Command::Cut { name, nums } => put_name_numbers(text, b"cut", name, nums),
+        Command::Load { name, form, file } => put_load(text, name, form, file),
         Command::Def { name, formula } => put_definition(text, name, formula),
         Command::Drop { name } => put_name(text, b"drop", name),
         Command::Show { name } => put_name(text, b"show", name),
@@ -73,7 +76,48 @@ fn put_command(text: &mut Vec<u8>, command: &Command) -> Result<(), NoMemory>
         Command::Point { name, nums } => put_name_numbers(text, b"point", name, nums),
         Command::Section { name, axis, at } => put_name_two(text, b"section", name, axis, at),
         Command::Project { name, axis } => put_name_number(text, b"project", name, axis),
+        Command::Save { name, form, file } => put_save(text, name, form, file),
         Command::List => put_word(text, b"list"),
+    }
+}
+
+/// Appends the text of a load.
+fn put_load(
+    text: &mut Vec<u8>,
+    name: &Name,
+    form: &LoadForm,
+    file: &FileName,
+) -> Result<(), NoMemory>
+    ensures text { OnOk result (text.new.items ≡ text.old.items ++ spaced (codes "load" ∷ name.now ∷ load_words form.now file.now)) }
+    ensures rule { OnOk result (is_name name.now ≡ true) }
+    ensures form_rule { OnOk result (FormKeepsRules form.now) }
+    ensures file_rule { OnOk result (is_file_name file.now ≡ true) }
+{
+    match form {
+        LoadForm::Evm => put_form_file(text, b"load", name, b"evm", file),
+        LoadForm::Boxes => put_form_file(text, b"load", name, b"boxes", file),
+        LoadForm::Pgm(threshold) => put_threshold_file(
+            text, b"load", name, b"pgm", threshold, file,
+        ),
+        LoadForm::Y4m(threshold) => put_threshold_file(
+            text, b"load", name, b"y4m", threshold, file,
+        ),
+    }
+}
+
+/// Appends the text of a save.
+fn put_save(
+    text: &mut Vec<u8>,
+    name: &Name,
+    form: &SaveForm,
+    file: &FileName,
+) -> Result<(), NoMemory>
+    ensures text { OnOk result (text.new.items ≡ text.old.items ++ spaced (codes "save" ∷ name.now ∷ save_words form.now file.now)) }
+    ensures rule { OnOk result (is_name name.now ≡ true) }
+    ensures file_rule { OnOk result (is_file_name file.now ≡ true) }
+{
+    match form {
+        SaveForm::Evm => put_form_file(text, b"save", name, b"evm", file),
     }
 }
 

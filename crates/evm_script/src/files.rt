@@ -1,0 +1,95 @@
+//! Names of files, and the forms that files have.
+
+ghost use Rattle.std.specs.Prelude.{◌≡◌, ◌<◌, length, slice_index, true, false, MatchOption};
+ghost use Rattle.evm_outside.specs.Shelves.{is_file_name};
+
+use super::numbers::Num;
+use evm_outside::{FILE_NAME_MAX, is_file_name};
+use std::marker::Model;
+
+/// A name of a file: 1 to 64 bytes, a letter from A to Z or a to z, a digit or an underscore, then
+/// these, dots or dashes; so never a path. It owns its bytes, in place, and takes no other memory.
+#[derive(Clone, Copy, Debug, PartialEq, Eq)]
+pub struct FileName {
+    bytes: [u8; FILE_NAME_MAX],
+    len: usize,
+}
+
+impl Model for FileName {
+    ghost use Rattle.std.specs.Prelude.{List, ℕ};
+    ghost use Rattle.evm_script.specs.FileNameFields.{file_name_bytes, file_name_fields, file_name_back, IsFileNameInside};
+
+    ghost Value = { List ℕ };
+
+    ghost view = { file_name_bytes };
+
+    ghost invariant = { IsFileNameInside };
+
+    ghost inverse = { file_name_fields };
+
+    ghost inverse_ok = { file_name_back };
+}
+
+impl FileName {
+    /// The file name with these bytes, or `None` exactly where they break the rule of file names.
+    pub fn of(bytes: &[u8]) -> Option<FileName>
+        ensures { MatchOption result (is_file_name bytes.now ≡ false) (λ name. (is_file_name bytes.now ≡ true) × (name ≡ bytes.now)) }
+    {
+        if !is_file_name(bytes) || bytes.len() > FILE_NAME_MAX {
+            return None;
+        }
+        let mut kept = [0u8; FILE_NAME_MAX];
+        kept[..bytes.len()].copy_from_slice(bytes);
+        Some(FileName {
+            bytes: kept,
+            len: bytes.len(),
+        })
+    }
+
+    /// How many bytes it has: 1 to 64.
+    pub fn len(&self) -> usize
+        ensures { result ≡ length self.now }
+    {
+        self.len
+    }
+
+    /// The byte at an index below `len`.
+    pub fn byte(&self, k: usize) -> u8
+        requires { k < length self.now }
+        ensures { result ≡ slice_index self.now k }
+    {
+        self.bytes[k]
+    }
+
+    /// The bytes, which keep the rule of file names.
+    pub fn bytes(&self) -> &[u8]
+        ensures value { result.now ≡ self.now }
+        ensures rule { is_file_name self.now ≡ true }
+    {
+        &self.bytes[..self.len]
+    }
+}
+
+/// What a file that is loaded holds.
+///
+/// A threshold is any number of a line: which of them samples can have is for the scene to say.
+#[derive(Clone, Copy, Debug, PartialEq, Eq)]
+pub enum LoadForm {
+    /// `evm`: a solid, by its extreme vertices.
+    Evm,
+    /// `boxes`: a text with a box a line; the solid is their union.
+    Boxes,
+    /// `pgm T`: a stack of PGM images; the cells of the solid are those whose sample is at least
+    /// the threshold.
+    Pgm(Num),
+    /// `y4m T`: a Y4M video; the cells of the solid are those whose sample is at least the
+    /// threshold.
+    Y4m(Num),
+}
+
+/// How a solid is saved.
+#[derive(Clone, Copy, Debug, PartialEq, Eq)]
+pub enum SaveForm {
+    /// `evm`: by its extreme vertices, as `load NAME evm FILE` reads them.
+    Evm,
+}
