@@ -26,7 +26,7 @@ others_stand scene edit other d = ap (λ (t : Option Entry). is_some t) ((at_edi
 pub input_empty : (scene : Scene) (name : List ℕ) (dim : ℤ) → IsWell scene → refusal scene (Input name dim) ≡ None → value (after scene (Input name dim)) name ≡ nothing (nat_abs dim)
 unfolding nothing
 input_empty scene name dim well r =
-    well_value (after scene (Input name dim)) (well_edit scene (Input name dim) well r) name
+    well_value (after scene (Input name dim)) (well_edit scene (Input name dim) well tt r) name
     ∙ ap (λ (t : Option Entry). entry_value t (value (after scene (Input name dim)))) (push_own scene.entries (record { name = name; dim = nat_abs dim; what = Given [] }) (new_input scene name dim r).fresh)
 
 -- a name has what its formula makes of the values of the operands, which stay
@@ -44,7 +44,7 @@ formula_entry scene name formula = by (stands scene name) refl
 pub definition_holds : (scene : Scene) (name : List ℕ) (formula : Formula) → IsWell scene → refusal scene (Def name formula) ≡ None
     → value (after scene (Def name formula)) name ≡ formula_value formula (value scene)
 definition_holds scene name formula well r =
-    well_value u (well_edit scene (Def name formula) well r) name
+    well_value u (well_edit scene (Def name formula) well tt r) name
     ∙ ap (λ (t : Option Entry). entry_value t (value u)) (formula_entry scene name formula)
     ∙ formula_same formula (value u) (value scene)
     (λ o m. let parts = before_parts scene name o ((definition scene name formula r).free o m) in others_stay scene (Def name formula) o well parts.0 parts.1)

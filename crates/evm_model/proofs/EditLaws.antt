@@ -15,7 +15,7 @@ use Rattle.evm_cells.proofs.Xor.{and_both}
 use Rattle.evm_script.specs.declared.formula.Formula.{Formula}
 use Rattle.evm_model.specs.Figures.{Figure, nothing, box_of, box_at, xor_of, or_of, sub_of, box_fits, same_figure}
 use Rattle.evm_model.specs.Scene.{Scene, Entry, Given, Made, has_name, entry_of, stands, dim_of, value, value_within, entry_value, reaches, with_entry, with_figure, with_new, formula_dim, what_is_sound, all_stay, IsWell}
-use Rattle.evm_model.specs.Edits.{Edit, Input, Toggle, Add, Cut, Def, Drop, name_of, refusal, with_box, after, changed, changed_names}
+use Rattle.evm_model.specs.Edits.{Edit, Input, Toggle, Add, Cut, Replace, Def, Drop, EditFits, name_of, refusal, with_box, after, changed, changed_names}
 use Rattle.evm_model.proofs.Names.{by_test, not_both, same_name, or_left, or_right, or_none, among_none}
 use Rattle.evm_model.proofs.Lookups.{with_own, with_stands}
 use Rattle.evm_model.proofs.Counts.{count_cons}
@@ -23,7 +23,7 @@ use Rattle.evm_model.proofs.FigureLaws.{same_itself, same_equal}
 use Rattle.evm_model.proofs.WellScenes.{value_dim, value_cells, sound_made}
 use Rattle.evm_model.proofs.Stays.{at_edit, value_stays}
 use Rattle.evm_model.proofs.WellEdits.{well_figure, stay_new, well_new, well_formula, well_without}
-use Rattle.evm_model.proofs.Refusals.{IsBoxFor, IsDefinition, new_input, box_for, definition, drops, dim_stated, formula_dim_fits}
+use Rattle.evm_model.proofs.Refusals.{IsBoxFor, IsDefinition, new_input, box_for, replacement, definition, drops, dim_stated, formula_dim_fits}
 
 -- equal figures
 pub same_both : (a b : Figure) → IsCellSet a.dim a.cells → IsCellSet b.dim b.cells → (same_figure a b ≡ true → a ≡ b) × (a ≡ b → same_figure a b ≡ true)
@@ -78,17 +78,31 @@ well_def scene name formula well r = by (stands scene name) refl d.stay
         well_new scene name (formula_dim scene formula) (Made formula) well h (formula_dim_fits scene well formula d.stand d.fits) sound d.stand
         (sym (stay_new scene name (formula_dim scene formula) (Made formula) well h d.stand) ∙ stay)
 
-pub well_edit : (scene : Scene) (edit : Edit) → IsWell scene → refusal scene edit ≡ None → IsWell (after scene edit)
-well_edit scene (Input name dim) well r = well_input scene name dim well r
-well_edit scene (Toggle name nums) well r = well_toggle scene name nums well (box_for xor_of scene name nums r).stay
-well_edit scene (Add name nums) well r = well_add scene name nums well (box_for or_of scene name nums r).stay
-well_edit scene (Cut name nums) well r = well_cut scene name nums well (box_for sub_of scene name nums r).stay
-well_edit scene (Def name formula) well r = well_def scene name formula well r
-well_edit scene (Drop name) well r = let d = drops scene name r in well_without scene name well d.standing d.unread
+well_replace : (scene : Scene) (name : List ℕ) (figure : Figure) → IsWell scene → IsCellSet figure.dim figure.cells → refusal scene (Replace name figure) ≡ None → IsWell (after scene (Replace name figure))
+well_replace scene name figure well fits r = let new = replacement scene name figure r in well_figure scene name figure well (sym new.dim) fits new.stay
+
+pub well_edit : (scene : Scene) (edit : Edit) → IsWell scene → EditFits edit → refusal scene edit ≡ None → IsWell (after scene edit)
+well_edit scene (Input name dim) well fits r = well_input scene name dim well r
+well_edit scene (Toggle name nums) well fits r = well_toggle scene name nums well (box_for xor_of scene name nums r).stay
+well_edit scene (Add name nums) well fits r = well_add scene name nums well (box_for or_of scene name nums r).stay
+well_edit scene (Cut name nums) well fits r = well_cut scene name nums well (box_for sub_of scene name nums r).stay
+well_edit scene (Replace name figure) well fits r = well_replace scene name figure well fits r
+well_edit scene (Def name formula) well fits r = well_def scene name formula well r
+well_edit scene (Drop name) well fits r = let d = drops scene name r in well_without scene name well d.standing d.unread
+
+-- an edit that is not refused leaves no formula that moves a cell out of the limits, whatever figure it states
+stay_edit : (scene : Scene) (edit : Edit) → IsWell scene → refusal scene edit ≡ None → all_stay (after scene edit) ≡ true
+stay_edit scene (Input name dim) well r = (well_edit scene (Input name dim) well tt r).stay
+stay_edit scene (Toggle name nums) well r = (box_for xor_of scene name nums r).stay
+stay_edit scene (Add name nums) well r = (box_for or_of scene name nums r).stay
+stay_edit scene (Cut name nums) well r = (box_for sub_of scene name nums r).stay
+stay_edit scene (Replace name figure) well r = (replacement scene name figure r).stay
+stay_edit scene (Def name formula) well r = (definition scene name formula r).stay
+stay_edit scene (Drop name) well r = (well_edit scene (Drop name) well tt r).stay
 
 -- an edit after which a formula would move a cell out of the limits is refused
 pub out_of_limits : (scene : Scene) (edit : Edit) → IsWell scene → all_stay (after scene edit) ≡ false → refusal scene edit ≡ None → ⊥
-out_of_limits scene edit well out r = not_both (all_stay (after scene edit)) (well_edit scene edit well r).stay out
+out_of_limits scene edit well out r = not_both (all_stay (after scene edit)) (stay_edit scene edit well r) out
 
 pub others_stay : (scene : Scene) (edit : Edit) (other : List ℕ) → IsWell scene → bytes_eq other (name_of edit) ≡ false → reaches scene other (name_of edit) ≡ false
     → value (after scene edit) other ≡ value scene other
@@ -110,6 +124,10 @@ pub boxes_combine : (scene : Scene) (name : List ℕ) (nums : List ℤ) → stan
     × (value (after scene (Add name nums)) name ≡ or_of (value scene name) (box_at (dim_of scene name) nums))
     × (value (after scene (Cut name nums)) name ≡ sub_of (value scene name) (box_at (dim_of scene name) nums))
 boxes_combine scene name nums s = (value_own scene name _ s, value_own scene name _ s, value_own scene name _ s)
+
+-- another figure for an input is the value of its name
+pub replaced : (scene : Scene) (name : List ℕ) (figure : Figure) → stands scene name ≡ true → value (after scene (Replace name figure)) name ≡ figure
+replaced scene name figure s = value_own scene name figure s
 
 -- how many pass a test that passes no more
 count_fewer : {X : Type 0} (p q : X → Bool) → ((x : X) → p x ≡ true → q x ≡ true) → (xs : List X) → count_by p xs ≤ count_by q xs

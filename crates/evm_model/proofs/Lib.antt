@@ -13,4 +13,6 @@ pub mod ChangeLaws
 pub mod ReplyLaws
 pub mod StepLaws
 pub mod LineLaws
+pub mod FileLaws
+pub mod LoadLaws
 pub mod RunLaws

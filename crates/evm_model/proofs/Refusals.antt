@@ -10,8 +10,8 @@ use Rattle.evm_script.specs.declared.formula.Formula.{Formula}
 use Rattle.evm_script.specs.declared.formula.Formula.TheVariants.{Or, And, Sub, Xor, Box, Shift, Mirror, Swap, Clip, Slice, Proj, Lift}
 use Rattle.evm_model.specs.Figures.{Figure, box_fits, low_of, high_of}
 use Rattle.evm_model.specs.Orders.{is_among}
-use Rattle.evm_model.specs.Scene.{Scene, stands, dim_of, is_input, is_read, reaches, operands, is_dim, is_axis, with_formula, formula_dim, formula_fits, formula_in_range, all_stay, IsWell}
-use Rattle.evm_model.specs.Edits.{Input, Def, Drop, Code, Name, Taken, Kind, Used, Cycle, Dim, Range, first_cause, lacks_operand, closes_cycle, misses_dim, box_causes, def_causes, value_causes, with_box, refusal}
+use Rattle.evm_model.specs.Scene.{Scene, stands, dim_of, is_input, is_read, reaches, operands, is_dim, is_axis, with_figure, with_formula, formula_dim, formula_fits, formula_in_range, all_stay, IsWell}
+use Rattle.evm_model.specs.Edits.{Input, Replace, Def, Drop, Code, Name, Taken, Kind, Used, Cycle, Dim, Range, first_cause, lacks_operand, closes_cycle, misses_dim, box_causes, figure_causes, def_causes, value_causes, with_box, refusal}
 use Rattle.evm_model.proofs.Names.{or_none, among_here, passes_none, not_true, not_false}
 use Rattle.evm_model.proofs.Stays.{is_before, before_both}
 use Rattle.evm_model.proofs.WellEdits.{standing_dim}
@@ -91,6 +91,34 @@ box_for op scene name nums r = record {
 
     third : first_cause dim ≡ None
     third = none_later (not (is_input scene name), Kind) dim second
+
+-- another figure for an input that is not refused
+pub record IsReplacement (scene : Scene) (name : List ℕ) (figure : Figure) : Type 0 where
+  pub standing : stands scene name ≡ true
+  pub input : is_input scene name ≡ true
+  pub dim : figure.dim ≡ dim_of scene name
+  pub stay : all_stay (with_figure scene name figure) ≡ true
+
+pub replacement : (scene : Scene) (name : List ℕ) (figure : Figure) → refusal scene (Replace name figure) ≡ None → IsReplacement scene name figure
+replacement scene name figure r = record {
+  standing = not_false (stands scene name) (none_first (not (stands scene name), Name) kind first);
+  input = not_false (is_input scene name) (none_first (not (is_input scene name), Kind) dims second);
+  dim = (Decides-eqb figure.dim (dim_of scene name)).0
+      (not_false (figure.dim == dim_of scene name) (none_first (not (figure.dim == dim_of scene name), Dim) [] (none_later (not (is_input scene name), Kind) dims second)));
+  stay = stay_left (figure_causes scene name figure) (with_figure scene name figure) r;
+}
+  where
+    first : first_cause (figure_causes scene name figure) ≡ None
+    first = none_front (figure_causes scene name figure) (value_causes (with_figure scene name figure)) r
+
+    dims : List (Bool × Code)
+    dims = (not (figure.dim == dim_of scene name), Dim) ∷ []
+
+    kind : List (Bool × Code)
+    kind = (not (is_input scene name), Kind) ∷ dims
+
+    second : first_cause kind ≡ None
+    second = none_later (not (stands scene name), Name) kind first
 
 -- a definition that is not refused
 pub record IsDefinition (scene : Scene) (name : List ℕ) (formula : Formula) : Type 0 where

@@ -8,7 +8,7 @@ use Rattle.evm_script.specs.declared.formula.Formula.{Formula}
 use Rattle.evm_model.specs.Figures.{Figure, nothing, box_at, xor_of, or_of, sub_of}
 use Rattle.evm_model.specs.Orders.{is_among, Ordered}
 use Rattle.evm_model.specs.Scene.{Scene, Entry, What, Given, Made, entry_of, stands, dim_of, entry_operands, operands_of, value, value_within, entry_value, what_stays, reaches, with_entry, without_entry, with_figure, with_new, with_formula, without_name, formula_dim, names_differ, all_stay, IsWell}
-use Rattle.evm_model.specs.Edits.{Edit, Input, Toggle, Add, Cut, Def, Drop, name_of, after}
+use Rattle.evm_model.specs.Edits.{Edit, Input, Toggle, Add, Cut, Replace, Def, Drop, name_of, after}
 use Rattle.evm_model.proofs.Names.{by_test, not_both, not_true, same_name, name_itself, or_left, or_none, neither, among_none, among_filter, some_passes, none_passes, any_among, apart_back}
 use Rattle.evm_model.proofs.Lookups.{none_stands, with_other, length-with, without_other, without_none, length-without, push_other, length-push}
 use Rattle.evm_model.proofs.Levels.{levels_agree, fixed_agree, entry_same, what_stays_same}
@@ -74,6 +74,7 @@ at_edit s (Input name dim) = at_new s name (nat_abs dim) (Given [])
 at_edit s (Toggle name nums) = at_figure s name (xor_of (value s name) (box_at (dim_of s name) nums))
 at_edit s (Add name nums) = at_figure s name (or_of (value s name) (box_at (dim_of s name) nums))
 at_edit s (Cut name nums) = at_figure s name (sub_of (value s name) (box_at (dim_of s name) nums))
+at_edit s (Replace name figure) = at_figure s name figure
 at_edit s (Def name formula) = at_formula s name formula
 at_edit s (Drop name) = at_drop s name
 

@@ -1,168 +1,257 @@
--- What a line leaves in a scene.
-use Rattle.std.proofs.Common.{◌≡◌, Bool, true, false, not, cond, List, [], ◌∷◌, Option, Some, None, Result, Ok, Err, refl, sym, ap, ◌∙◌}
-use Rattle.std.specs.Prelude.{ℕ}
+-- What a line leaves in a scene, and which files it reads and places.
+use Rattle.std.proofs.Common.{◌≡◌, Bool, true, false, not, List, [], ◌++◌, Option, Some, None, Result, Ok, Err, refl, sym, ap, ◌∙◌}
+use Rattle.std.specs.Prelude.{ℕ, is_none}
 use Rattle.std.specs.List.{list_all}
 use Rattle.std.proofs.lemmas.Bool.{false≢true}
 use Rattle.evm_cells.specs.Limits.{is_cell_coord, is_point_coord}
-use Rattle.evm_cells.proofs.Xor.{and_first, and_second}
 use Rattle.evm_script.specs.Line.{command}
 use Rattle.evm_script.specs.declared.command.Command.{Command}
 use Rattle.evm_script.specs.declared.command.Command.TheVariants as commands
 use Rattle.evm_script.specs.declared.command.LineError.{LineError}
 use Rattle.evm_script.specs.declared.command.LineError.TheVariants as faults
-use Rattle.evm_model.specs.Scene.{Scene, start, dim_of, IsWell}
+use Rattle.evm_script.specs.declared.files.LoadForm.{LoadForm}
+use Rattle.evm_script.specs.declared.files.SaveForm.{SaveForm}
+use Rattle.evm_model.specs.Files.{Fetches, bytes_in}
+use Rattle.evm_model.specs.Scene.{Scene, start, value, dim_of, IsWell}
 use Rattle.evm_model.specs.Edits as codes
-use Rattle.evm_model.specs.Edits.{Edit, Input, Toggle, Add, Cut, Def, Drop, Code, Memory, first_cause, name_causes, place_causes, section_causes, axis_causes, edit_causes, refusal, after}
-use Rattle.evm_model.specs.Replies.{Reply, Empty, No, Listed, is_no}
-use Rattle.evm_model.specs.Laws.{is_edit}
-use Rattle.evm_model.specs.Steps.{Turn, stays, unless_refused, edited, turn_of, line_turn, step}
+use Rattle.evm_model.specs.Edits.{Edit, Input, Toggle, Add, Cut, Replace, Def, Drop, EditFits, Code, Missing, Shelf, Memory, first_cause, name_causes, place_causes, section_causes, axis_causes, edit_causes, refusal, after, changed}
+use Rattle.evm_model.specs.Replies.{Reply, Empty, No, Changed, Listed, is_no}
+use Rattle.evm_model.specs.Laws.{is_edit, is_save}
+use Rattle.evm_model.specs.Steps.{Turn, stays, unless_refused, edited, load_causes, loaded, file_causes, load_turn, saved, turn_of, line_turn, step, command_fetches, of_line, fetches}
 use Rattle.evm_model.proofs.EditLaws.{well_edit}
 use Rattle.evm_model.proofs.Names.{not_true}
+use Rattle.evm_model.proofs.LoadLaws.{first_passes, first_front, some_cause, well_load}
 
--- a turn that leaves the scene where it refuses, and never lacks memory
-abbrev pub IsMild : Scene → Turn → Type 0
-IsMild scene turn = (is_no turn.reply ≡ true → turn.scene ≡ scene) × (turn.reply ≡ No Memory → ⊥)
+-- the codes that come by a mark alone
+abbrev pub by_mark : Code → Bool
+by_mark Shelf = true
+by_mark Memory = true
+by_mark _ = false
 
-abbrev pub is_memory : Code → Bool
-is_memory codes.Line = false
-is_memory codes.Syntax = false
-is_memory codes.Name = false
-is_memory codes.Taken = false
-is_memory codes.Kind = false
-is_memory codes.Used = false
-is_memory codes.Cycle = false
-is_memory codes.Dim = false
-is_memory codes.Range = false
-is_memory codes.Memory = true
+-- these, and the codes that come by a file
+abbrev pub is_outer : Code → Bool
+is_outer Missing = true
+is_outer Shelf = true
+is_outer codes.Form = true
+is_outer Memory = true
+is_outer _ = false
 
--- no cause is want of memory
-abbrev pub no_memory : List (Bool × Code) → Bool
-no_memory causes = list_all (λ c. not (is_memory c.1)) causes
+outer_mark : (code : Code) → is_outer code ≡ false → by_mark code ≡ false
+outer_mark Shelf h = absurd (false≢true (sym h))
+outer_mark Memory h = absurd (false≢true (sym h))
+outer_mark _ h = refl
 
-first_mild : (causes : List (Bool × Code)) (code : Code) → no_memory causes ≡ true → first_cause causes ≡ Some code → is_memory code ≡ false
-first_mild [] code h e = absurd (no_some e)
+-- whether a reply refuses by such a code
+abbrev pub refuses_by : (Code → Bool) → Reply → Bool
+refuses_by test (No code) = test code
+refuses_by test _ = false
+
+-- a turn that leaves the scene and places no file where it refuses, and refuses by no such code
+abbrev pub IsMild : (Code → Bool) → Scene → Turn → Type 0
+IsMild test scene turn = (is_no turn.reply ≡ true → (turn.scene ≡ scene) × (turn.placed ≡ None)) × (refuses_by test turn.reply ≡ false)
+
+outer_mild : (scene : Scene) (turn : Turn) → IsMild is_outer scene turn → IsMild by_mark scene turn
+outer_mild scene turn m = (m.0, by turn.reply m.1)
   where
-    no_some : None ≡ Some code → ⊥
-    no_some q = cc
-first_mild (c ∷ cs) code h e =
-    elim c.0 as (λ b. cond b (Some c.1) (first_cause cs) ≡ Some code → is_memory code ≡ false) [
-      | true ↦ λ k. ap is_memory (sym (same_code k)) ∙ not_true (is_memory c.1) (and_first (not (is_memory c.1)) (no_memory cs) h)
-      | false ↦ λ k. first_mild cs code (and_second (not (is_memory c.1)) (no_memory cs) h) k
-    ] e
+    by : (reply : Reply) → refuses_by is_outer reply ≡ false → refuses_by by_mark reply ≡ false
+    by (No code) h = outer_mark code h
+    by _ h = refl
+
+no_none : (test : Code → Bool) (reply : Reply) → is_no reply ≡ false → refuses_by test reply ≡ false
+no_none test (No code) h = absurd (false≢true (sym h))
+no_none test _ h = refl
+
+mild_reply : (test : Code → Bool) (scene : Scene) (turn : Turn) → is_no turn.reply ≡ false → IsMild test scene turn
+mild_reply test scene turn n = (λ h. absurd (false≢true (sym n ∙ h)), no_none test turn.reply n)
+
+mild_unless : (test : Code → Bool) (scene : Scene) (turn : Turn) (causes : List (Bool × Code)) → list_all (λ (c : Bool × Code). not (test c.1)) causes ≡ true → is_no turn.reply ≡ false
+    → IsMild test scene (unless_refused (first_cause causes) scene turn)
+mild_unless test scene turn causes m n = by_cause (first_cause causes) refl
   where
-    same_code : Some c.1 ≡ Some code → c.1 ≡ code
-    same_code q = cc
+    by_cause : (o : Option Code) → first_cause causes ≡ o → IsMild test scene (unless_refused o scene turn)
+    by_cause None e = mild_reply test scene turn n
+    by_cause (Some code) e = (λ h. (refl, refl), not_true (test code) (first_passes (λ c. not (test c)) causes code m e))
 
-reply_of_no : (reply : Reply) → reply ≡ No Memory → is_no reply ≡ true
-reply_of_no reply e = ap is_no e
+-- a command refuses by no mark, and by no file where it fetches none
+abbrev pub IsQuiet : Fetches → Scene → Command → Type 0
+IsQuiet fetched scene c = IsMild by_mark scene (turn_of fetched scene c) × (command_fetches scene c ≡ false → IsMild is_outer scene (turn_of fetched scene c))
 
-mild_reply : (scene : Scene) (turn : Turn) → is_no turn.reply ≡ false → IsMild scene turn
-mild_reply scene turn n = (λ h. absurd (false≢true (sym n ∙ h)), λ e. false≢true (sym n ∙ reply_of_no turn.reply e))
+quiet : (fetched : Fetches) (scene : Scene) (c : Command) → IsMild is_outer scene (turn_of fetched scene c) → IsQuiet fetched scene c
+quiet fetched scene c m = (outer_mild scene (turn_of fetched scene c) m, λ h. m)
 
-mild_no : (scene : Scene) (code : Code) → is_memory code ≡ false → IsMild scene (stays scene (No code))
-mild_no scene code n = (λ h. refl, λ e. false≢true (sym n ∙ ap is_memory (same_code e)))
+quiet_load : (fetched : Fetches) (scene : Scene) (name file : List ℕ) (form : LoadForm) → IsQuiet fetched scene (commands.Load name form file)
+quiet_load fetched scene name file form = (
+  mild_unless by_mark scene _ (load_causes scene name form ++ file_causes fetched scene name form file) refl refl,
+  λ h. refused (first_cause (load_causes scene name form)) refl h,
+)
   where
-    same_code : No code ≡ No Memory → code ≡ Memory
-    same_code q = cc
+    refused : (o : Option Code) → first_cause (load_causes scene name form) ≡ o → is_none o ≡ false → IsMild is_outer scene (load_turn fetched scene name form file)
+    refused None e h = absurd (false≢true (sym h))
+    refused (Some code) e h = rw (first_front (load_causes scene name form) (file_causes fetched scene name form file) code e) ((λ k. (refl, refl), not_true (is_outer code) (first_passes (λ c. not (is_outer c)) (load_causes scene name form) code refl e)))
 
-mild_unless : (scene : Scene) (turn : Turn) (causes : List (Bool × Code)) → no_memory causes ≡ true → is_no turn.reply ≡ false → IsMild scene (unless_refused (first_cause causes) scene turn)
-mild_unless scene turn causes m n = by_cause (first_cause causes) refl
-  where
-    by_cause : (o : Option Code) → first_cause causes ≡ o → IsMild scene (unless_refused o scene turn)
-    by_cause None e = mild_reply scene turn n
-    by_cause (Some code) e = mild_no scene code (first_mild causes code m e)
+quiet_turn : (fetched : Fetches) (scene : Scene) (c : Command) → IsQuiet fetched scene c
+quiet_turn fetched scene commands.Blank = quiet fetched scene commands.Blank (mild_reply is_outer scene (stays scene Empty) refl)
+quiet_turn fetched scene (commands.Input name dim) = quiet fetched scene (commands.Input name dim) (mild_unless is_outer scene _ (edit_causes scene (Input name dim)) refl refl)
+quiet_turn fetched scene (commands.Toggle name nums) = quiet fetched scene (commands.Toggle name nums) (mild_unless is_outer scene _ (edit_causes scene (Toggle name nums)) refl refl)
+quiet_turn fetched scene (commands.Add name nums) = quiet fetched scene (commands.Add name nums) (mild_unless is_outer scene _ (edit_causes scene (Add name nums)) refl refl)
+quiet_turn fetched scene (commands.Cut name nums) = quiet fetched scene (commands.Cut name nums) (mild_unless is_outer scene _ (edit_causes scene (Cut name nums)) refl refl)
+quiet_turn fetched scene (commands.Load name form file) = quiet_load fetched scene name file form
+quiet_turn fetched scene (commands.Def name formula) = quiet fetched scene (commands.Def name formula) (mild_unless is_outer scene _ (edit_causes scene (Def name formula)) refl refl)
+quiet_turn fetched scene (commands.Drop name) = quiet fetched scene (commands.Drop name) (mild_unless is_outer scene _ (edit_causes scene (Drop name)) refl refl)
+quiet_turn fetched scene (commands.Show name) = quiet fetched scene (commands.Show name) (mild_unless is_outer scene _ (name_causes scene name) refl refl)
+quiet_turn fetched scene (commands.Section name axis at) = quiet fetched scene (commands.Section name axis at) (mild_unless is_outer scene _ (section_causes scene name axis at) refl refl)
+quiet_turn fetched scene (commands.Project name axis) = quiet fetched scene (commands.Project name axis) (mild_unless is_outer scene _ (axis_causes scene name axis) refl refl)
+quiet_turn fetched scene (commands.Content name) = quiet fetched scene (commands.Content name) (mild_unless is_outer scene _ (name_causes scene name) refl refl)
+quiet_turn fetched scene (commands.Boundary name) = quiet fetched scene (commands.Boundary name) (mild_unless is_outer scene _ (name_causes scene name) refl refl)
+quiet_turn fetched scene (commands.At name nums) = quiet fetched scene (commands.At name nums) (mild_unless is_outer scene _ (place_causes scene name nums (is_cell_coord (dim_of scene name))) refl refl)
+quiet_turn fetched scene (commands.Point name nums) = quiet fetched scene (commands.Point name nums) (mild_unless is_outer scene _ (place_causes scene name nums (is_point_coord (dim_of scene name))) refl refl)
+quiet_turn fetched scene (commands.Save name form file) = quiet fetched scene (commands.Save name form file) (mild_unless is_outer scene _ (name_causes scene name) refl refl)
+quiet_turn fetched scene commands.List = quiet fetched scene commands.List (mild_reply is_outer scene (stays scene (Listed scene.entries)) refl)
 
-mild_turn : (scene : Scene) (c : Command) → IsMild scene (turn_of scene c)
-mild_turn scene commands.Blank = mild_reply scene (stays scene Empty) refl
-mild_turn scene (commands.Input name dim) = mild_unless scene _ (edit_causes scene (Input name dim)) refl refl
-mild_turn scene (commands.Toggle name nums) = mild_unless scene _ (edit_causes scene (Toggle name nums)) refl refl
-mild_turn scene (commands.Add name nums) = mild_unless scene _ (edit_causes scene (Add name nums)) refl refl
-mild_turn scene (commands.Cut name nums) = mild_unless scene _ (edit_causes scene (Cut name nums)) refl refl
-mild_turn scene (commands.Def name formula) = mild_unless scene _ (edit_causes scene (Def name formula)) refl refl
-mild_turn scene (commands.Drop name) = mild_unless scene _ (edit_causes scene (Drop name)) refl refl
-mild_turn scene (commands.Show name) = mild_unless scene _ (name_causes scene name) refl refl
-mild_turn scene (commands.Section name axis at) = mild_unless scene _ (section_causes scene name axis at) refl refl
-mild_turn scene (commands.Project name axis) = mild_unless scene _ (axis_causes scene name axis) refl refl
-mild_turn scene (commands.Content name) = mild_unless scene _ (name_causes scene name) refl refl
-mild_turn scene (commands.Boundary name) = mild_unless scene _ (name_causes scene name) refl refl
-mild_turn scene (commands.At name nums) = mild_unless scene _ (place_causes scene name nums (is_cell_coord (dim_of scene name))) refl refl
-mild_turn scene (commands.Point name nums) = mild_unless scene _ (place_causes scene name nums (is_point_coord (dim_of scene name))) refl refl
-mild_turn scene commands.List = mild_reply scene (stays scene (Listed scene.entries)) refl
+quiet_line : (fetched : Fetches) (scene : Scene) (r : Result Command LineError)
+    → IsMild by_mark scene (line_turn fetched scene r) × (of_line (command_fetches scene) r ≡ false → IsMild is_outer scene (line_turn fetched scene r))
+quiet_line fetched scene (Ok c) = quiet_turn fetched scene c
+quiet_line fetched scene (Err faults.Long) = ((λ h. (refl, refl), refl), λ h. (λ k. (refl, refl), refl))
+quiet_line fetched scene (Err faults.Syntax) = ((λ h. (refl, refl), refl), λ h. (λ k. (refl, refl), refl))
+quiet_line fetched scene (Err faults.NoMemory) = ((λ h. (refl, refl), refl), λ h. (λ k. (refl, refl), refl))
 
-mild_line : (scene : Scene) (r : Result Command LineError) → IsMild scene (line_turn scene r)
-mild_line scene (Ok c) = mild_turn scene c
-mild_line scene (Err faults.Long) = mild_no scene codes.Line refl
-mild_line scene (Err faults.Syntax) = mild_no scene codes.Syntax refl
-mild_line scene (Err faults.NoMemory) = mild_reply scene (stays scene Empty) refl
-
-pub mild_step : (scene : Scene) (line : List ℕ) → IsMild scene (step scene line)
+pub mild_step : (fetched : Fetches) (scene : Scene) (line : List ℕ) → IsMild by_mark scene (step fetched scene line)
 unfolding step
-mild_step scene line = mild_line scene (command line)
+mild_step fetched scene line = (quiet_line fetched scene (command line)).0
+
+pub has_memory : (fetched : Fetches) (scene : Scene) (line : List ℕ) → ((step fetched scene line).reply ≡ No Memory → ⊥) × ((step fetched scene line).reply ≡ No Shelf → ⊥)
+has_memory fetched scene line =
+    let h = (mild_step fetched scene line).1 in
+    (λ e. false≢true (sym h ∙ ap (refuses_by by_mark) e), λ e. false≢true (sym h ∙ ap (refuses_by by_mark) e))
+
+-- where no file is fetched none is missing
+pub missing_fetched : (fetched : Fetches) (scene : Scene) (line : List ℕ) → fetches scene line ≡ false → (step fetched scene line).reply ≡ No Missing → ⊥
+unfolding step fetches
+missing_fetched fetched scene line h e = false≢true (sym ((quiet_line fetched scene (command line)).1 h).1 ∙ ap (refuses_by is_outer) e)
+
+-- a line that fetches no file is the same whatever fetches give
+others_load : (f g : Fetches) (scene : Scene) (name file : List ℕ) (form : LoadForm) → is_none (first_cause (load_causes scene name form)) ≡ false → load_turn f scene name form file ≡ load_turn g scene name form file
+others_load f g scene name file form h = let some = some_cause (first_cause (load_causes scene name form)) h in refused f some.0 some.1 ∙ sym (refused g some.0 some.1)
+  where
+    refused : (fetched : Fetches) (code : Code) → first_cause (load_causes scene name form) ≡ Some code → load_turn fetched scene name form file ≡ stays scene (No code)
+    refused fetched code e =
+        let new = loaded fetched scene name form file in
+        ap (λ (o : Option Code). unless_refused o scene (record { reply = Changed (changed scene (Replace name new)); scene = after scene (Replace name new); placed = None }))
+        (first_front (load_causes scene name form) (file_causes fetched scene name form file) code e)
+
+others_turn : (f g : Fetches) (scene : Scene) (c : Command) → command_fetches scene c ≡ false → turn_of f scene c ≡ turn_of g scene c
+others_turn f g scene (commands.Load name form file) h = others_load f g scene name file form h
+others_turn f g scene _ h = refl
+
+others_line : (f g : Fetches) (scene : Scene) (r : Result Command LineError) → of_line (command_fetches scene) r ≡ false → line_turn f scene r ≡ line_turn g scene r
+others_line f g scene (Ok c) h = others_turn f g scene c h
+others_line f g scene (Err faults.Long) h = refl
+others_line f g scene (Err faults.Syntax) h = refl
+others_line f g scene (Err faults.NoMemory) h = refl
+
+pub others_read_none : (f g : Fetches) (scene : Scene) (line : List ℕ) → fetches scene line ≡ false → step f scene line ≡ step g scene line
+unfolding step fetches
+others_read_none f g scene line h = others_line f g scene (command line) h
+
+-- a question leaves the scene
+leaves : (scene : Scene) (o : Option Code) (turn : Turn) → turn.scene ≡ scene → (unless_refused o scene turn).scene ≡ scene
+leaves scene None turn h = h
+leaves scene (Some code) turn h = refl
+
+question_turn : (fetched : Fetches) (scene : Scene) (c : Command) → is_edit c ≡ false → (turn_of fetched scene c).scene ≡ scene
+question_turn fetched scene commands.Blank h = refl
+question_turn fetched scene (commands.Show name) h = leaves scene (first_cause (name_causes scene name)) _ refl
+question_turn fetched scene (commands.Section name axis at) h = leaves scene (first_cause (section_causes scene name axis at)) _ refl
+question_turn fetched scene (commands.Project name axis) h = leaves scene (first_cause (axis_causes scene name axis)) _ refl
+question_turn fetched scene (commands.Content name) h = leaves scene (first_cause (name_causes scene name)) _ refl
+question_turn fetched scene (commands.Boundary name) h = leaves scene (first_cause (name_causes scene name)) _ refl
+question_turn fetched scene (commands.At name nums) h = leaves scene (first_cause (place_causes scene name nums (is_cell_coord (dim_of scene name)))) _ refl
+question_turn fetched scene (commands.Point name nums) h = leaves scene (first_cause (place_causes scene name nums (is_point_coord (dim_of scene name)))) _ refl
+question_turn fetched scene (commands.Save name form file) h = leaves scene (first_cause (name_causes scene name)) _ refl
+question_turn fetched scene commands.List h = refl
+question_turn fetched scene _ h = absurd (false≢true (sym h))
+
+pub question_leaves : (fetched : Fetches) (scene : Scene) (line : List ℕ) (c : Command) → command line ≡ Ok c → is_edit c ≡ false → (step fetched scene line).scene ≡ scene
+unfolding step
+question_leaves fetched scene line c e h = ap (λ (r : Result Command LineError). (line_turn fetched scene r).scene) e ∙ question_turn fetched scene c h
+
+-- a line that is no save places no file
+unplaced : (scene : Scene) (o : Option Code) (turn : Turn) → turn.placed ≡ None → (unless_refused o scene turn).placed ≡ None
+unplaced scene None turn h = h
+unplaced scene (Some code) turn h = refl
+
+pub unsaved_turn : (fetched : Fetches) (scene : Scene) (c : Command) → is_save c ≡ false → (turn_of fetched scene c).placed ≡ None
+unsaved_turn fetched scene commands.Blank h = refl
+unsaved_turn fetched scene (commands.Input name dim) h = unplaced scene (refusal scene (Input name dim)) _ refl
+unsaved_turn fetched scene (commands.Toggle name nums) h = unplaced scene (refusal scene (Toggle name nums)) _ refl
+unsaved_turn fetched scene (commands.Add name nums) h = unplaced scene (refusal scene (Add name nums)) _ refl
+unsaved_turn fetched scene (commands.Cut name nums) h = unplaced scene (refusal scene (Cut name nums)) _ refl
+unsaved_turn fetched scene (commands.Load name form file) h = unplaced scene (first_cause (load_causes scene name form ++ file_causes fetched scene name form file)) _ refl
+unsaved_turn fetched scene (commands.Def name formula) h = unplaced scene (refusal scene (Def name formula)) _ refl
+unsaved_turn fetched scene (commands.Drop name) h = unplaced scene (refusal scene (Drop name)) _ refl
+unsaved_turn fetched scene (commands.Show name) h = unplaced scene (first_cause (name_causes scene name)) _ refl
+unsaved_turn fetched scene (commands.Section name axis at) h = unplaced scene (first_cause (section_causes scene name axis at)) _ refl
+unsaved_turn fetched scene (commands.Project name axis) h = unplaced scene (first_cause (axis_causes scene name axis)) _ refl
+unsaved_turn fetched scene (commands.Content name) h = unplaced scene (first_cause (name_causes scene name)) _ refl
+unsaved_turn fetched scene (commands.Boundary name) h = unplaced scene (first_cause (name_causes scene name)) _ refl
+unsaved_turn fetched scene (commands.At name nums) h = unplaced scene (first_cause (place_causes scene name nums (is_cell_coord (dim_of scene name)))) _ refl
+unsaved_turn fetched scene (commands.Point name nums) h = unplaced scene (first_cause (place_causes scene name nums (is_point_coord (dim_of scene name)))) _ refl
+unsaved_turn fetched scene commands.List h = refl
+unsaved_turn fetched scene (commands.Save name form file) h = absurd (false≢true (sym h))
+
+unsaved_line : (fetched : Fetches) (scene : Scene) (r : Result Command LineError) → of_line is_save r ≡ false → (line_turn fetched scene r).placed ≡ None
+unsaved_line fetched scene (Ok c) h = unsaved_turn fetched scene c h
+unsaved_line fetched scene (Err faults.Long) h = refl
+unsaved_line fetched scene (Err faults.Syntax) h = refl
+unsaved_line fetched scene (Err faults.NoMemory) h = refl
+
+pub only_saves : (fetched : Fetches) (scene : Scene) (line : List ℕ) → of_line is_save (command line) ≡ false → (step fetched scene line).placed ≡ None
+unfolding step
+only_saves fetched scene line h = unsaved_line fetched scene (command line) h
+
+-- a save that is not refused places its file
+made : (scene : Scene) (o : Option Code) (turn : Turn) → is_no (unless_refused o scene turn).reply ≡ false → (unless_refused o scene turn).placed ≡ turn.placed
+made scene None turn h = refl
+made scene (Some code) turn h = absurd (false≢true (sym h))
+
+pub save_places : (fetched : Fetches) (scene : Scene) (line name file : List ℕ) (form : SaveForm) → command line ≡ Ok (commands.Save name form file)
+    → is_no (step fetched scene line).reply ≡ false → (step fetched scene line).placed ≡ Some (file, bytes_in form (value scene name))
+unfolding step
+save_places fetched scene line name file form e h =
+    ap (λ (r : Result Command LineError). (line_turn fetched scene r).placed) e
+    ∙ made scene (first_cause (name_causes scene name)) (saved scene file (bytes_in form (value scene name))) (sym (ap (λ (r : Result Command LineError). is_no (line_turn fetched scene r).reply) e) ∙ h)
 
 -- the scene before the first line is well: nothing stands in it
--- a question leaves the scene
-asked_leaves : (scene : Scene) (o : Option Code) (reply : Reply) → (unless_refused o scene (stays scene reply)).scene ≡ scene
-asked_leaves scene None reply = refl
-asked_leaves scene (Some code) reply = refl
-
-question_turn : (scene : Scene) (c : Command) → is_edit c ≡ false → (turn_of scene c).scene ≡ scene
-question_turn scene commands.Blank h = refl
-question_turn scene (commands.Input name dim) h = absurd (false≢true (sym h))
-question_turn scene (commands.Toggle name nums) h = absurd (false≢true (sym h))
-question_turn scene (commands.Add name nums) h = absurd (false≢true (sym h))
-question_turn scene (commands.Cut name nums) h = absurd (false≢true (sym h))
-question_turn scene (commands.Def name formula) h = absurd (false≢true (sym h))
-question_turn scene (commands.Drop name) h = absurd (false≢true (sym h))
-question_turn scene (commands.Show name) h = asked_leaves scene _ _
-question_turn scene (commands.Section name axis at) h = asked_leaves scene _ _
-question_turn scene (commands.Project name axis) h = asked_leaves scene _ _
-question_turn scene (commands.Content name) h = asked_leaves scene _ _
-question_turn scene (commands.Boundary name) h = asked_leaves scene _ _
-question_turn scene (commands.At name nums) h = asked_leaves scene _ _
-question_turn scene (commands.Point name nums) h = asked_leaves scene _ _
-question_turn scene commands.List h = refl
-
-pub question_leaves : (scene : Scene) (line : List ℕ) (c : Command) → command line ≡ Ok c → is_edit c ≡ false → (step scene line).scene ≡ scene
-unfolding step
-question_leaves scene line c e h = ap (λ (r : Result Command LineError). (line_turn scene r).scene) e ∙ question_turn scene c h
-
 pub well_start : IsWell start
 well_start = record { names = refl; dims = refl; sound = refl; stay = refl; order = []; ordered = tt; whole = λ x. refl; size = refl }
 
-well_edited : (scene : Scene) (edit : Edit) (reply : Reply) → IsWell scene → IsWell (edited scene edit reply).scene
-well_edited scene edit reply well = by_cause (refusal scene edit) refl
+well_edited : (scene : Scene) (edit : Edit) (reply : Reply) → IsWell scene → EditFits edit → IsWell (edited scene edit reply).scene
+well_edited scene edit reply well fits = by_cause (refusal scene edit) refl
   where
-    by_cause : (o : Option Code) → refusal scene edit ≡ o → IsWell (unless_refused o scene (record { reply = reply; scene = after scene edit })).scene
-    by_cause None e = well_edit scene edit well e
+    by_cause : (o : Option Code) → refusal scene edit ≡ o → IsWell (unless_refused o scene (record { reply = reply; scene = after scene edit; placed = None })).scene
+    by_cause None e = well_edit scene edit well fits e
     by_cause (Some code) e = well
 
-well_asked : (scene : Scene) (o : Option Code) (reply : Reply) → IsWell scene → IsWell (unless_refused o scene (stays scene reply)).scene
-well_asked scene None reply well = well
-well_asked scene (Some code) reply well = well
+-- a turn that leaves a scene keeps it well
+well_left : (scene left : Scene) → IsWell scene → left ≡ scene → IsWell left
+well_left scene left well e = rw e well
 
-well_turn : (scene : Scene) (c : Command) → IsWell scene → IsWell (turn_of scene c).scene
-well_turn scene commands.Blank well = well
-well_turn scene (commands.Input name dim) well = well_edited scene (Input name dim) _ well
-well_turn scene (commands.Toggle name nums) well = well_edited scene (Toggle name nums) _ well
-well_turn scene (commands.Add name nums) well = well_edited scene (Add name nums) _ well
-well_turn scene (commands.Cut name nums) well = well_edited scene (Cut name nums) _ well
-well_turn scene (commands.Def name formula) well = well_edited scene (Def name formula) _ well
-well_turn scene (commands.Drop name) well = well_edited scene (Drop name) _ well
-well_turn scene (commands.Show name) well = well_asked scene _ _ well
-well_turn scene (commands.Section name axis at) well = well_asked scene _ _ well
-well_turn scene (commands.Project name axis) well = well_asked scene _ _ well
-well_turn scene (commands.Content name) well = well_asked scene _ _ well
-well_turn scene (commands.Boundary name) well = well_asked scene _ _ well
-well_turn scene (commands.At name nums) well = well_asked scene _ _ well
-well_turn scene (commands.Point name nums) well = well_asked scene _ _ well
-well_turn scene commands.List well = well
+well_turn : (fetched : Fetches) (scene : Scene) (c : Command) → IsWell scene → IsWell (turn_of fetched scene c).scene
+well_turn fetched scene (commands.Input name dim) well = well_edited scene (Input name dim) _ well tt
+well_turn fetched scene (commands.Toggle name nums) well = well_edited scene (Toggle name nums) _ well tt
+well_turn fetched scene (commands.Add name nums) well = well_edited scene (Add name nums) _ well tt
+well_turn fetched scene (commands.Cut name nums) well = well_edited scene (Cut name nums) _ well tt
+well_turn fetched scene (commands.Load name form file) well = well_load fetched scene name file form well
+well_turn fetched scene (commands.Def name formula) well = well_edited scene (Def name formula) _ well tt
+well_turn fetched scene (commands.Drop name) well = well_edited scene (Drop name) _ well tt
+well_turn fetched scene c well = well_left scene (turn_of fetched scene c).scene well (question_turn fetched scene c refl)
 
-well_line : (scene : Scene) (r : Result Command LineError) → IsWell scene → IsWell (line_turn scene r).scene
-well_line scene (Ok c) well = well_turn scene c well
-well_line scene (Err faults.Long) well = well
-well_line scene (Err faults.Syntax) well = well
-well_line scene (Err faults.NoMemory) well = well
+well_line : (fetched : Fetches) (scene : Scene) (r : Result Command LineError) → IsWell scene → IsWell (line_turn fetched scene r).scene
+well_line fetched scene (Ok c) well = well_turn fetched scene c well
+well_line fetched scene (Err faults.Long) well = well
+well_line fetched scene (Err faults.Syntax) well = well
+well_line fetched scene (Err faults.NoMemory) well = well
 
-pub well_step : (scene : Scene) (line : List ℕ) → IsWell scene → IsWell (step scene line).scene
+pub well_step : (fetched : Fetches) (scene : Scene) (line : List ℕ) → IsWell scene → IsWell (step fetched scene line).scene
 unfolding step
-well_step scene line well = well_line scene (command line) well
+well_step fetched scene line well = well_line fetched scene (command line) well

@@ -1,17 +1,19 @@
 -- Edits of a scene: what refuses them, what they leave, and how many names they change.
 use Rattle.std.specs.Prelude.{ℕ, ◌*◌, ◌==◌, Bool, not, ◌&&◌, ◌||◌, if◌then◌else◌, ℤ, nat_abs, List, [], ◌∷◌, ◌++◌, length, Option, None, Some, count_by, bytes_eq}
 use Rattle.std.specs.List.{list_any, list_all}
-use Rattle.evm_cells.specs.Limits.{is_cell_coord}
+use Rattle.evm_cells.specs.Limits.{is_cell_coord, IsCellSet}
 use Rattle.evm_script.specs.declared.formula.Formula.{Formula}
 use Rattle.evm_model.specs.Figures.{Figure, low_of, high_of, box_at, xor_of, or_of, sub_of, box_fits, same_figure}
 use Rattle.evm_model.specs.Scene.{Scene, Entry, Given, stands, is_input, is_read, dim_of, value, reaches, operands, formula_dim, formula_fits, formula_in_range, is_axis, all_stay, with_figure, with_formula, with_new, without_name, is_dim}
 
--- an edit: a name, and the dimension of a new input, the numbers of a box, a formula, or nothing more
+-- an edit: a name, and the dimension of a new input, the numbers of a box, a figure in the place of an input's, a formula, or
+-- nothing more
 pub data Edit : Type 0 where
   Input : List ℕ → ℤ → Edit
   Toggle : List ℕ → List ℤ → Edit
   Add : List ℕ → List ℤ → Edit
   Cut : List ℕ → List ℤ → Edit
+  Replace : List ℕ → Figure → Edit
   Def : List ℕ → Formula → Edit
   Drop : List ℕ → Edit
 
@@ -21,12 +23,24 @@ name_of (Input name dim) = name
 name_of (Toggle name nums) = name
 name_of (Add name nums) = name
 name_of (Cut name nums) = name
+name_of (Replace name figure) = name
 name_of (Def name formula) = name
 name_of (Drop name) = name
 
+-- a figure that an edit states has a cell set
+abbrev pub EditFits : Edit → Type 0
+EditFits (Input name dim) = Unit {0}
+EditFits (Toggle name nums) = Unit {0}
+EditFits (Add name nums) = Unit {0}
+EditFits (Cut name nums) = Unit {0}
+EditFits (Replace name figure) = IsCellSet figure.dim figure.cells
+EditFits (Def name formula) = Unit {0}
+EditFits (Drop name) = Unit {0}
+
 -- why a line is refused: it is too long, or no command; a name does not stand, or stands already; the name stands for the other
 -- kind, an input or a formula; it is read by a formula; a formula would reach itself; the dimension or the count of numbers is
--- wrong; a number is past the limits; or memory was missing
+-- wrong; a number is past the limits; there is no file of a name, the shelf of files failed, or a file's bytes are none of the form;
+-- or memory was missing
 pub data Code : Type 0 where
   Line : Code
   Syntax : Code
@@ -37,6 +51,9 @@ pub data Code : Type 0 where
   Cycle : Code
   Dim : Code
   Range : Code
+  Missing : Code
+  Shelf : Code
+  Form : Code
   Memory : Code
 
 -- the code of the first cause that holds
@@ -77,6 +94,14 @@ box_causes scene name nums =
     ∷ (not (box_fits (low_of (dim_of scene name) nums) (high_of (dim_of scene name) nums)), Range)
     ∷ []
 
+-- what refuses another figure for an input
+abbrev pub figure_causes : Scene → List ℕ → Figure → List (Bool × Code)
+figure_causes scene name figure =
+    (not (stands scene name), Name)
+    ∷ (not (is_input scene name), Kind)
+    ∷ (not (figure.dim == dim_of scene name), Dim)
+    ∷ []
+
 -- whether some operand of a formula other than the name that is being made does not stand
 abbrev pub lacks_operand : Scene → List ℕ → Formula → Bool
 lacks_operand scene name formula = list_any (λ o. not (bytes_eq o name) && not (stands scene o)) (operands formula)
@@ -109,6 +134,7 @@ after scene (Input name dim) = with_new scene name (nat_abs dim) (Given [])
 after scene (Toggle name nums) = with_box xor_of scene name nums
 after scene (Add name nums) = with_box or_of scene name nums
 after scene (Cut name nums) = with_box sub_of scene name nums
+after scene (Replace name figure) = with_figure scene name figure
 after scene (Def name formula) = with_formula scene name formula
 after scene (Drop name) = without_name scene name
 
@@ -122,6 +148,7 @@ edit_causes scene (Input name dim) = (stands scene name, Taken) ∷ (not (is_dim
 edit_causes scene (Toggle name nums) = box_causes scene name nums ++ value_causes (after scene (Toggle name nums))
 edit_causes scene (Add name nums) = box_causes scene name nums ++ value_causes (after scene (Add name nums))
 edit_causes scene (Cut name nums) = box_causes scene name nums ++ value_causes (after scene (Cut name nums))
+edit_causes scene (Replace name figure) = figure_causes scene name figure ++ value_causes (after scene (Replace name figure))
 edit_causes scene (Def name formula) = def_causes scene name formula ++ value_causes (after scene (Def name formula))
 edit_causes scene (Drop name) = (not (stands scene name), Name) ∷ (is_read scene name, Used) ∷ []
 

@@ -1,20 +1,26 @@
 -- Laws of figures, scenes, edits, replies, steps and runs.
-use Rattle.std.specs.Prelude.{ℕ, ◌≡◌, ◌≢◌, ◌↔◌, ◌≤◌, ◌⊎◌, Bool, true, false, not, ◌||◌, nat_eq, nat_abs, ℤ, List, [], ◌∷◌, ◌++◌, length, take, map, flat_map, codes, Some, None, Ok, bytes_eq, count_by, if◌then◌else◌}
+use Rattle.std.specs.Prelude.{ℕ, ◌≡◌, ◌≢◌, ◌↔◌, ◌≤◌, ◌⊎◌, Bool, true, false, not, ◌||◌, nat_eq, nat_abs, ℤ, pos, List, [], ◌∷◌, ◌++◌, length, take, map, flat_map, codes, Option, Some, None, Ok, bytes_eq, count_by, if◌then◌else◌}
 use Rattle.std.specs.List.{list_any, list_all, starts_with}
 use Rattle.evm_cells.specs.Limits.{IsCellSet}
 use Rattle.evm_cells.specs.Shapes.{added}
 use Rattle.evm_script.specs.Line.{command}
 use Rattle.evm_script.specs.declared.command.Command.{Command}
 use Rattle.evm_script.specs.declared.command.Command.TheVariants as commands
+use Rattle.evm_file.specs.File.{IsSolidCells}
+use Rattle.evm_script.specs.declared.files.LoadForm.{LoadForm}
+use Rattle.evm_script.specs.declared.files.LoadForm.TheVariants as forms
+use Rattle.evm_script.specs.declared.files.SaveForm.{SaveForm}
+use Rattle.evm_script.specs.declared.files.SaveForm.TheVariants as saves
 use Rattle.evm_script.specs.declared.formula.Formula.{Formula}
 use Rattle.evm_script.specs.declared.formula.Formula.TheVariants.{Shift}
 use Rattle.evm_model.specs.Figures.{Figure, nothing, box_at, xor_of, or_of, sub_of, same_figure}
+use Rattle.evm_model.specs.Files.{Fetches, form_fits, figure_in, figure_fetched, bytes_in}
 use Rattle.evm_model.specs.Orders.{is_among}
-use Rattle.evm_model.specs.Scene.{Scene, Entry, Made, start, entry_of, stands, dim_of, operands_of, formula_value, entry_value, value, reaches, is_read, all_stay, with_figure, IsWell}
-use Rattle.evm_model.specs.Edits.{Edit, Input, Toggle, Add, Cut, Def, Drop, Memory, name_of, refusal, after, changed, changed_names}
+use Rattle.evm_model.specs.Scene.{Scene, Entry, Made, start, entry_of, stands, dim_of, operands_of, formula_value, entry_value, value, reaches, is_read, all_stay, with_figure, is_dim, IsWell}
+use Rattle.evm_model.specs.Edits.{Edit, Input, Toggle, Add, Cut, Replace, Def, Drop, Missing, Shelf, Form, Memory, EditFits, name_of, refusal, after, changed, changed_names}
 use Rattle.evm_model.specs.Replies.{Reply, No, reply_text, line_of, is_no}
-use Rattle.evm_model.specs.Steps.{step}
-use Rattle.evm_model.specs.Runs.{Mark, lines, run}
+use Rattle.evm_model.specs.Steps.{step, fetches, of_line}
+use Rattle.evm_model.specs.Runs.{World, Mark, Plain, Fetched, lines, answer, fetched_from, run, world_after}
 
 -- two figures that are cell sets are the same exactly where they are equal
 abbrev pub SameIsEqual : Type 0
@@ -28,9 +34,10 @@ RefusalsBeginWithNo = (reply : Reply) → starts_with nat_eq (reply_text reply) 
 abbrev pub RepliesAreLines : Type 0
 RepliesAreLines = (reply : Reply) → (reply_text reply ≡ []) ⊎ ((front : List ℕ) × (reply_text reply ≡ front ++ 10 ∷ []))
 
--- a refused line leaves the scene
+-- a refused line leaves the scene, and places no file
 abbrev pub RefusalChangesNothing : Type 0
-RefusalChangesNothing = (scene : Scene) (line : List ℕ) → is_no (step scene line).reply ≡ true → (step scene line).scene ≡ scene
+RefusalChangesNothing = (fetched : Fetches) (scene : Scene) (line : List ℕ) → is_no (step fetched scene line).reply ≡ true
+    → ((step fetched scene line).scene ≡ scene) × ((step fetched scene line).placed ≡ None)
 
 -- a command that edits the scene
 abbrev pub is_edit : Command → Bool
@@ -39,6 +46,7 @@ is_edit (commands.Input name dim) = true
 is_edit (commands.Toggle name nums) = true
 is_edit (commands.Add name nums) = true
 is_edit (commands.Cut name nums) = true
+is_edit (commands.Load name form file) = true
 is_edit (commands.Def name formula) = true
 is_edit (commands.Drop name) = true
 is_edit (commands.Show name) = false
@@ -49,18 +57,20 @@ is_edit (commands.Boundary name) = false
 is_edit (commands.At name nums) = false
 is_edit (commands.Point name nums) = false
 is_edit commands.List = false
+is_edit (commands.Save name form file) = false
 
 -- a line that is no edit leaves the scene
 abbrev pub QuestionsLeaveScene : Type 0
-QuestionsLeaveScene = (scene : Scene) (line : List ℕ) (c : Command) → command line ≡ Ok c → is_edit c ≡ false → (step scene line).scene ≡ scene
+QuestionsLeaveScene = (fetched : Fetches) (scene : Scene) (line : List ℕ) (c : Command) → command line ≡ Ok c → is_edit c ≡ false
+    → (step fetched scene line).scene ≡ scene
 
 -- an edit after which a formula would move a cell out of the limits is refused
 abbrev pub OutOfLimitsIsRefused : Type 0
 OutOfLimitsIsRefused = (scene : Scene) (edit : Edit) → IsWell scene → all_stay (after scene edit) ≡ false → refusal scene edit ≢ None
 
--- a step never lacks memory: that comes by a mark alone
+-- a step never lacks memory, and its shelf never fails: that comes by a mark alone
 abbrev pub StepHasMemory : Type 0
-StepHasMemory = (scene : Scene) (line : List ℕ) → (step scene line).reply ≢ No Memory
+StepHasMemory = (fetched : Fetches) (scene : Scene) (line : List ℕ) → ((step fetched scene line).reply ≢ No Memory) × ((step fetched scene line).reply ≢ No Shelf)
 
 -- the scene before the first line is well
 abbrev pub StartIsWell : Type 0
@@ -68,7 +78,11 @@ StartIsWell = IsWell start
 
 -- a line keeps a scene well
 abbrev pub StepsKeepWell : Type 0
-StepsKeepWell = (scene : Scene) (line : List ℕ) → IsWell scene → IsWell (step scene line).scene
+StepsKeepWell = (fetched : Fetches) (scene : Scene) (line : List ℕ) → IsWell scene → IsWell (step fetched scene line).scene
+
+-- an edit that is not refused keeps a scene well, where a figure that it states has a cell set
+abbrev pub EditsKeepWell : Type 0
+EditsKeepWell = (scene : Scene) (edit : Edit) → IsWell scene → EditFits edit → refusal scene edit ≡ None → IsWell (after scene edit)
 
 -- the value of a name is what its entry makes of the values of its operands
 abbrev pub ValuesFollowFormulas : Type 0
@@ -127,6 +141,10 @@ BoxesCombine = (scene : Scene) (name : List ℕ) (nums : List ℤ) → stands sc
     × (value (after scene (Add name nums)) name ≡ or_of (value scene name) (box_at (dim_of scene name) nums))
     × (value (after scene (Cut name nums)) name ≡ sub_of (value scene name) (box_at (dim_of scene name) nums))
 
+-- another figure for a name is its value
+abbrev pub ReplacementsHold : Type 0
+ReplacementsHold = (scene : Scene) (name : List ℕ) (figure : Figure) → stands scene name ≡ true → value (after scene (Replace name figure)) name ≡ figure
+
 -- a definition gives its name what the formula makes of the values that the operands have before, and keep
 abbrev pub DefinitionsHold : Type 0
 DefinitionsHold = (scene : Scene) (name : List ℕ) (formula : Formula) → IsWell scene → refusal scene (Def name formula) ≡ None
@@ -167,17 +185,120 @@ ToggleChangesName = (scene : Scene) (name : List ℕ) (nums : List ℤ) → IsWe
 abbrev pub ToggleCountsName : Type 0
 ToggleCountsName = (scene : Scene) (name : List ℕ) (nums : List ℤ) → IsWell scene → refusal scene (Toggle name nums) ≡ None → 1 ≤ changed scene (Toggle name nums)
 
+-- ---- loads and saves
+
+-- a load depends on what is fetched under its file name alone
+abbrev pub LoadsReadTheirFile : Type 0
+LoadsReadTheirFile = (f g : Fetches) (scene : Scene) (line name file : List ℕ) (form : LoadForm) → command line ≡ Ok (commands.Load name form file)
+    → f file ≡ g file → step f scene line ≡ step g scene line
+
+-- a line that fetches no file is the same whatever fetches give
+abbrev pub OthersReadNone : Type 0
+OthersReadNone = (f g : Fetches) (scene : Scene) (line : List ℕ) → fetches scene line ≡ false → step f scene line ≡ step g scene line
+
+-- a load that is not refused gives its name the figure that the fetched bytes state
+abbrev pub LoadsTakeFigure : Type 0
+LoadsTakeFigure = (fetched : Fetches) (scene : Scene) (line name file : List ℕ) (form : LoadForm) → command line ≡ Ok (commands.Load name form file)
+    → is_no (step fetched scene line).reply ≡ false
+    → figure_fetched form (dim_of scene name) (fetched file) ≡ Some (value (step fetched scene line).scene name)
+
+-- a load is answered that there is no file exactly where it fetches and nothing is there
+abbrev pub MissingIsNoFile : Type 0
+MissingIsNoFile = (fetched : Fetches) (scene : Scene) (line name file : List ℕ) (form : LoadForm) → command line ≡ Ok (commands.Load name form file)
+    → ((step fetched scene line).reply ≡ No Missing) ↔ ((fetches scene line ≡ true) × (fetched file ≡ None))
+
+-- no line is so answered that fetches no file
+abbrev pub MissingIsFetched : Type 0
+MissingIsFetched = (fetched : Fetches) (scene : Scene) (line : List ℕ) → fetches scene line ≡ false → (step fetched scene line).reply ≢ No Missing
+
+-- a load is answered that bytes are none of its form exactly where it fetches bytes that state no figure in it
+abbrev pub FormIsNoFigure : Type 0
+FormIsNoFigure = (fetched : Fetches) (scene : Scene) (line name file : List ℕ) (form : LoadForm) → command line ≡ Ok (commands.Load name form file)
+    → ((step fetched scene line).reply ≡ No Form)
+    ↔ ((fetches scene line ≡ true) × ((bytes : List ℕ) × (fetched file ≡ Some bytes) × (figure_in form (dim_of scene name) bytes ≡ None)))
+
+-- a save that is not refused places the bytes of the value of its name
+abbrev pub SavesPlaceValues : Type 0
+SavesPlaceValues = (fetched : Fetches) (scene : Scene) (line name file : List ℕ) (form : SaveForm) → command line ≡ Ok (commands.Save name form file)
+    → is_no (step fetched scene line).reply ≡ false
+    → (step fetched scene line).placed ≡ Some (file, bytes_in form (value scene name))
+
+-- a command that saves
+abbrev pub is_save : Command → Bool
+is_save (commands.Save name form file) = true
+is_save _ = false
+
+-- a line that is no save places no file
+abbrev pub OnlySavesPlace : Type 0
+OnlySavesPlace = (fetched : Fetches) (scene : Scene) (line : List ℕ) → of_line is_save (command line) ≡ false → (step fetched scene line).placed ≡ None
+
+-- two solids are saved in equal bytes exactly if they are equal
+abbrev pub SavedBytesTellSolids : Type 0
+SavedBytesTellSolids = (a b : Figure) → IsSolidCells a.dim a.cells → IsSolidCells b.dim b.cells
+    → (bytes_in saves.Evm a ≡ bytes_in saves.Evm b) ↔ (a ≡ b)
+
+-- so two names of one dimension are, exactly if they have the same cells
+abbrev pub SavedBytesTellNames : Type 0
+SavedBytesTellNames = (scene : Scene) (x y : List ℕ) → IsWell scene → stands scene x ≡ true → stands scene y ≡ true → dim_of scene x ≡ dim_of scene y
+    → (bytes_in saves.Evm (value scene x) ≡ bytes_in saves.Evm (value scene y)) ↔ ((value scene x).cells ≡ (value scene y).cells)
+
+-- bytes state a solid as an EVM file exactly if it is saved in these bytes
+abbrev pub SavedBytesLoad : Type 0
+SavedBytesLoad = (bytes : List ℕ) (a : Figure) → IsSolidCells a.dim a.cells
+    → (figure_in forms.Evm a.dim bytes ≡ Some a) ↔ (bytes ≡ bytes_in saves.Evm a)
+
+-- each figure that bytes state is a cell set of the dimension that was asked for, where the form fits it
+abbrev pub FiguresAreCellSets : Type 0
+FiguresAreCellSets = (form : LoadForm) (n : ℕ) (bytes : List ℕ) (a : Figure) → is_dim (pos n) ≡ true → form_fits form n ≡ true → figure_in form n bytes ≡ Some a
+    → (a.dim ≡ n) × IsCellSet a.dim a.cells
+
+-- ---- runs
+
+-- a refused line leaves the scene and the files
+abbrev pub RefusedLeavesWorld : Type 0
+RefusedLeavesWorld = (world : World) (line : List ℕ) (mark : Mark) → is_no (answer world line mark).reply ≡ true → (answer world line mark).world ≡ world
+
+-- a line keeps the scene of a world well
+abbrev pub AnswersKeepWell : Type 0
+AnswersKeepWell = (world : World) (line : List ℕ) (mark : Mark) → IsWell world.scene → IsWell (answer world line mark).world.scene
+
+-- the scene of a world that a run leaves is well
+abbrev pub RunsKeepWell : Type 0
+RunsKeepWell = (world : World) (ls : List (List ℕ)) (marks : List Mark) → IsWell world.scene → IsWell (world_after world ls marks).scene
+
+-- whether a command saves to a file of this name
+abbrev pub saves_to : List ℕ → Command → Bool
+saves_to file (commands.Save name form to) = bytes_eq file to
+saves_to file _ = false
+
+-- a run leaves each file to which none of its lines saves
+abbrev pub RunLeavesFiles : Type 0
+RunLeavesFiles = (world : World) (ls : List (List ℕ)) (marks : List Mark) (file : List ℕ) → list_any (λ line. of_line (saves_to file) (command line)) ls ≡ false
+    → fetched_from (world_after world ls marks).files file ≡ fetched_from world.files file
+
+-- the last file that was saved under a name is there
+abbrev pub SavedFileIsThere : Type 0
+SavedFileIsThere = (world : World) (line name file : List ℕ) (form : SaveForm) (mark : Mark) → command line ≡ Ok (commands.Save name form file)
+    → is_no (answer world line mark).reply ≡ false
+    → fetched_from (answer world line mark).world.files file ≡ Some (bytes_in form (value world.scene name))
+
+-- a line of a shelf that does not tell its files is that of one that does, where the fetched bytes are those of its file
+abbrev pub FetchedIsTold : Type 0
+FetchedIsTold = (world : World) (line name file : List ℕ) (form : LoadForm) (got : Option (List ℕ)) → command line ≡ Ok (commands.Load name form file)
+    → fetched_from world.files file ≡ got → answer world line (Fetched got) ≡ answer world line Plain
+
 -- each line is answered once, as far as there are marks
 abbrev pub OneReplyEach : Type 0
-OneReplyEach = (scene : Scene) (ls : List (List ℕ)) (marks : List Mark) → length marks ≤ length ls → length (run scene ls marks) ≡ length marks
+OneReplyEach = (world : World) (ls : List (List ℕ)) (marks : List Mark) → length marks ≤ length ls → length (run world ls marks) ≡ length marks
 
 -- the replies to a front of the lines are the front of the replies
 abbrev pub FrontOfRun : Type 0
-FrontOfRun = (scene : Scene) (ls : List (List ℕ)) (marks : List Mark) (k : ℕ) → run scene ls (take k marks) ≡ take k (run scene ls marks)
+FrontOfRun = (world : World) (ls : List (List ℕ)) (marks : List Mark) (k : ℕ) → run world ls (take k marks) ≡ take k (run world ls marks)
 
--- later lines change no earlier reply
+-- later lines change no earlier reply, and not the world at that time
 abbrev pub LaterLinesWait : Type 0
-LaterLinesWait = (scene : Scene) (ls more : List (List ℕ)) (marks : List Mark) → length marks ≤ length ls → run scene (ls ++ more) marks ≡ run scene ls marks
+LaterLinesWait = (world : World) (ls more : List (List ℕ)) (marks : List Mark) → length marks ≤ length ls
+    → (run world (ls ++ more) marks ≡ run world ls marks) × (world_after world (ls ++ more) marks ≡ world_after world ls marks)
 
 -- no line has an LF
 abbrev pub LinesHaveNoLf : Type 0

@@ -1,4 +1,5 @@
 pub mod Figures
+pub mod Files
 pub mod Orders
 pub mod Scene
 pub mod Edits

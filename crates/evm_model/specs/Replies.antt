@@ -5,7 +5,7 @@ use Rattle.std.specs.Fmt.{signed_decimal}
 use Rattle.evm_model.specs.Figures.{Figure, Place, Inside, Boundary, Outside, vertices_in}
 use Rattle.evm_script.specs.Printed.{formula_words}
 use Rattle.evm_model.specs.Scene.{Entry, What, Given, Made}
-use Rattle.evm_model.specs.Edits.{Code, Line, Syntax, Name, Taken, Kind, Used, Cycle, Dim, Range, Memory}
+use Rattle.evm_model.specs.Edits.{Code, Line, Syntax, Name, Taken, Kind, Used, Cycle, Dim, Range, Missing, Shelf, Form, Memory}
 
 -- nothing, a refusal, how many names changed, a figure, a measure, whether a cell is filled, the place of a point, or the names
 pub data Reply : Type 0 where
@@ -29,6 +29,9 @@ code_text Used = codes "used"
 code_text Cycle = codes "cycle"
 code_text Dim = codes "dim"
 code_text Range = codes "range"
+code_text Missing = codes "missing"
+code_text Shelf = codes "shelf"
+code_text Form = codes "form"
 code_text Memory = codes "memory"
 
 -- the word of a place

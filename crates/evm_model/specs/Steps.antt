@@ -1,24 +1,27 @@
--- One line: its reply, and the scene after it.
-use Rattle.std.specs.Prelude.{ℕ, nat_abs, Bool, List, Option, None, Some, Result, Ok, Err}
+-- One line: its reply, the scene after it, and the file that it places.
+use Rattle.std.specs.Prelude.{ℕ, nat_abs, Bool, false, not, List, [], ◌∷◌, ◌++◌, length, Option, None, Some, is_none, Result, Ok, Err}
 use Rattle.evm_cells.specs.Limits.{is_cell_coord, is_point_coord}
 use Rattle.evm_script.specs.Line.{command}
 use Rattle.evm_script.specs.declared.command.Command.{Command}
 use Rattle.evm_script.specs.declared.command.Command.TheVariants as commands
 use Rattle.evm_script.specs.declared.command.LineError.{LineError}
 use Rattle.evm_script.specs.declared.command.LineError.TheVariants as faults
-use Rattle.evm_model.specs.Figures.{content_of, boundary_of, fills, place_of, slice_of, proj_of}
-use Rattle.evm_model.specs.Scene.{Scene, value, dim_of}
-use Rattle.evm_model.specs.Edits.{Edit, Input, Toggle, Add, Cut, Def, Drop, Code, Line, Syntax, first_cause, name_causes, place_causes, section_causes, axis_causes, refusal, after, changed}
+use Rattle.evm_script.specs.declared.files.LoadForm.{LoadForm}
+use Rattle.evm_model.specs.Figures.{Figure, content_of, boundary_of, fills, place_of, slice_of, proj_of}
+use Rattle.evm_model.specs.Files.{Fetches, form_fits, form_in_range, figure_fetched, or_nothing, bytes_in}
+use Rattle.evm_model.specs.Scene.{Scene, value, stands, dim_of, is_input}
+use Rattle.evm_model.specs.Edits.{Edit, Input, Toggle, Add, Cut, Replace, Def, Drop, Code, Line, Syntax, Name, Kind, Dim, Range, Missing, Form, first_cause, name_causes, place_causes, section_causes, axis_causes, value_causes, refusal, after, changed}
 use Rattle.evm_model.specs.Replies.{Reply, Empty, No, Changed, Shown, Measured, Filled, Placed, Listed}
 
--- what a line does: its reply, and the scene after it
+-- what a line does: its reply, the scene after it, and the file that it places, as a name and its bytes
 pub record Turn : Type 0 where
   pub reply : Reply
   pub scene : Scene
+  pub placed : Option (List ℕ × List ℕ)
 
 -- a reply that leaves the scene
 abbrev pub stays : Scene → Reply → Turn
-stays scene reply = record { reply = reply; scene = scene }
+stays scene reply = record { reply = reply; scene = scene; placed = None }
 
 -- refused by the first cause, or as stated
 abbrev pub unless_refused : Option Code → Scene → Turn → Turn
@@ -27,37 +30,101 @@ unless_refused (Some code) scene turn = stays scene (No code)
 
 -- an edit that is refused or made, with this reply
 abbrev pub edited : Scene → Edit → Reply → Turn
-edited scene edit reply = unless_refused (refusal scene edit) scene (record { reply = reply; scene = after scene edit })
+edited scene edit reply = unless_refused (refusal scene edit) scene (record { reply = reply; scene = after scene edit; placed = None })
 
 -- a question that is refused by one of these causes or answered
 abbrev pub asked : List (Bool × Code) → Scene → Reply → Turn
 asked causes scene reply = unless_refused (first_cause causes) scene (stays scene reply)
 
--- what a command does in a scene
-abbrev pub turn_of : Scene → Command → Turn
-turn_of scene commands.Blank = stays scene Empty
-turn_of scene (commands.Input name dim) = edited scene (Input name dim) (Changed 0)
-turn_of scene (commands.Toggle name nums) = edited scene (Toggle name nums) (Changed (changed scene (Toggle name nums)))
-turn_of scene (commands.Add name nums) = edited scene (Add name nums) (Changed (changed scene (Add name nums)))
-turn_of scene (commands.Cut name nums) = edited scene (Cut name nums) (Changed (changed scene (Cut name nums)))
-turn_of scene (commands.Def name formula) = edited scene (Def name formula) (Changed (changed scene (Def name formula)))
-turn_of scene (commands.Drop name) = edited scene (Drop name) (Changed 0)
-turn_of scene commands.List = stays scene (Listed scene.entries)
-turn_of scene (commands.Show name) = asked (name_causes scene name) scene (Shown (value scene name))
-turn_of scene (commands.Section name axis at) = asked (section_causes scene name axis at) scene (Shown (slice_of (nat_abs axis) at (value scene name)))
-turn_of scene (commands.Project name axis) = asked (axis_causes scene name axis) scene (Shown (proj_of (nat_abs axis) (value scene name)))
-turn_of scene (commands.Content name) = asked (name_causes scene name) scene (Measured (content_of (value scene name)))
-turn_of scene (commands.Boundary name) = asked (name_causes scene name) scene (Measured (boundary_of (value scene name)))
-turn_of scene (commands.At name nums) = asked (place_causes scene name nums (is_cell_coord (dim_of scene name))) scene (Filled (fills (value scene name) nums))
-turn_of scene (commands.Point name nums) = asked (place_causes scene name nums (is_point_coord (dim_of scene name))) scene (Placed (place_of (value scene name) nums))
+-- what refuses a load before its file is fetched
+abbrev pub load_causes : Scene → List ℕ → LoadForm → List (Bool × Code)
+load_causes scene name form =
+    (not (stands scene name), Name)
+    ∷ (not (is_input scene name), Kind)
+    ∷ (not (form_fits form (dim_of scene name)), Dim)
+    ∷ (not (form_in_range form), Range)
+    ∷ []
+
+-- the figure that a load puts in place of that of an input
+abbrev pub loaded : Fetches → Scene → List ℕ → LoadForm → List ℕ → Figure
+loaded fetched scene name form file = or_nothing (dim_of scene name) (figure_fetched form (dim_of scene name) (fetched file))
+
+-- what refuses a load by its file: there is none, its bytes are none of the form, or a formula would move a cell of what it
+-- makes out of the limits
+abbrev pub file_causes : Fetches → Scene → List ℕ → LoadForm → List ℕ → List (Bool × Code)
+file_causes fetched scene name form file =
+    (is_none (fetched file), Missing)
+    ∷ (is_none (figure_fetched form (dim_of scene name) (fetched file)), Form)
+    ∷ value_causes (after scene (Replace name (loaded fetched scene name form file)))
+
+-- a load that is refused, or puts the figure of a file in place of that of an input
+abbrev pub load_turn : Fetches → Scene → List ℕ → LoadForm → List ℕ → Turn
+load_turn fetched scene name form file =
+    unless_refused (first_cause (load_causes scene name form ++ file_causes fetched scene name form file)) scene (record {
+      reply = Changed (changed scene (Replace name (loaded fetched scene name form file)));
+      scene = after scene (Replace name (loaded fetched scene name form file));
+      placed = None;
+    })
+
+-- a file that is placed, which leaves the scene
+abbrev pub saved : Scene → List ℕ → List ℕ → Turn
+saved scene file bytes = record { reply = Measured (length bytes); scene = scene; placed = Some (file, bytes) }
+
+-- what a command does in a scene, where fetches give this
+abbrev pub turn_of : Fetches → Scene → Command → Turn
+turn_of fetched scene commands.Blank = stays scene Empty
+turn_of fetched scene (commands.Input name dim) = edited scene (Input name dim) (Changed 0)
+turn_of fetched scene (commands.Toggle name nums) = edited scene (Toggle name nums) (Changed (changed scene (Toggle name nums)))
+turn_of fetched scene (commands.Add name nums) = edited scene (Add name nums) (Changed (changed scene (Add name nums)))
+turn_of fetched scene (commands.Cut name nums) = edited scene (Cut name nums) (Changed (changed scene (Cut name nums)))
+turn_of fetched scene (commands.Load name form file) = load_turn fetched scene name form file
+turn_of fetched scene (commands.Def name formula) = edited scene (Def name formula) (Changed (changed scene (Def name formula)))
+turn_of fetched scene (commands.Drop name) = edited scene (Drop name) (Changed 0)
+turn_of fetched scene commands.List = stays scene (Listed scene.entries)
+turn_of fetched scene (commands.Show name) = asked (name_causes scene name) scene (Shown (value scene name))
+turn_of fetched scene (commands.Section name axis at) =
+    asked (section_causes scene name axis at) scene (Shown (slice_of (nat_abs axis) at (value scene name)))
+turn_of fetched scene (commands.Project name axis) = asked (axis_causes scene name axis) scene (Shown (proj_of (nat_abs axis) (value scene name)))
+turn_of fetched scene (commands.Content name) = asked (name_causes scene name) scene (Measured (content_of (value scene name)))
+turn_of fetched scene (commands.Boundary name) = asked (name_causes scene name) scene (Measured (boundary_of (value scene name)))
+turn_of fetched scene (commands.At name nums) =
+    asked (place_causes scene name nums (is_cell_coord (dim_of scene name))) scene (Filled (fills (value scene name) nums))
+turn_of fetched scene (commands.Point name nums) =
+    asked (place_causes scene name nums (is_point_coord (dim_of scene name))) scene (Placed (place_of (value scene name) nums))
+turn_of fetched scene (commands.Save name form file) =
+    unless_refused (first_cause (name_causes scene name)) scene (saved scene file (bytes_in form (value scene name)))
 
 -- a line that is no command is refused (a definition of commands never lacks memory)
-abbrev pub line_turn : Scene → Result Command LineError → Turn
-line_turn scene (Ok c) = turn_of scene c
-line_turn scene (Err faults.Long) = stays scene (No Line)
-line_turn scene (Err faults.Syntax) = stays scene (No Syntax)
-line_turn scene (Err faults.NoMemory) = stays scene Empty
+abbrev pub line_turn : Fetches → Scene → Result Command LineError → Turn
+line_turn fetched scene (Ok c) = turn_of fetched scene c
+line_turn fetched scene (Err faults.Long) = stays scene (No Line)
+line_turn fetched scene (Err faults.Syntax) = stays scene (No Syntax)
+line_turn fetched scene (Err faults.NoMemory) = stays scene Empty
 
--- what a line does in a scene
-unfoldable pub step : Scene → List ℕ → Turn
-step scene line = line_turn scene (command line)
+-- what a line does in a scene, where fetches give this
+unfoldable pub step : Fetches → Scene → List ℕ → Turn
+step fetched scene line = line_turn fetched scene (command line)
+
+-- whether a command fetches a file: a load that nothing refuses before
+abbrev pub command_fetches : Scene → Command → Bool
+command_fetches scene (commands.Load name form file) = is_none (first_cause (load_causes scene name form))
+command_fetches scene _ = false
+
+-- whether a command asks the shelf: it fetches, or it is a save that nothing refuses
+abbrev pub command_asks : Scene → Command → Bool
+command_asks scene (commands.Load name form file) = is_none (first_cause (load_causes scene name form))
+command_asks scene (commands.Save name form file) = is_none (first_cause (name_causes scene name))
+command_asks scene _ = false
+
+-- whether a test of commands holds of a line, which may be none
+abbrev pub of_line : (Command → Bool) → Result Command LineError → Bool
+of_line test (Ok c) = test c
+of_line test (Err e) = false
+
+-- whether a line fetches a file
+unfoldable pub fetches : Scene → List ℕ → Bool
+fetches scene line = of_line (command_fetches scene) (command line)
+
+-- whether a line asks the shelf
+unfoldable pub asks : Scene → List ℕ → Bool
+asks scene line = of_line (command_asks scene) (command line)

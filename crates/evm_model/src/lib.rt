@@ -9,18 +9,23 @@
 //! a figure: the cells of an input, or what a formula makes of the values of its operands. A name **reaches** its operands and
 //! what they reach. A scene is **well** where names differ, dimensions are 2 to 6, each input is a cell set, each formula fits
 //! its operands, no shift moves a cell out of the limits, and the names can be put in an order in which operands come first.
-//! A **step** is what one line does: its reply, and the scene after it. A **run** takes the lines of a script in order, each
-//! with a mark that says whether it was answered or memory was missing.
+//! A **step** is what one line does: its reply, the scene after it, and the file that it places. It is given what a fetch of
+//! each file name gives. A **world** is a scene and the files of a shelf. A **run** takes the lines of a script in order, each
+//! with a mark that says whether it was answered, memory was missing, or the shelf failed; where a shelf does not tell its
+//! files, the mark also says what a load fetched.
 #![tactic(auto)]
 
 ghost use Rattle.evm_model.specs.Laws.{SameIsEqual, RefusalsBeginWithNo, RepliesAreLines};
 ghost use Rattle.evm_model.specs.Laws.{RefusalChangesNothing, QuestionsLeaveScene, OutOfLimitsIsRefused};
-ghost use Rattle.evm_model.specs.Laws.{StepHasMemory, StartIsWell, StepsKeepWell};
+ghost use Rattle.evm_model.specs.Laws.{StepHasMemory, StartIsWell, StepsKeepWell, EditsKeepWell};
 ghost use Rattle.evm_model.specs.Laws.{ValuesFollowFormulas, FormulasDetermineValues, ReachingFollowsFormulas, NoneReachesItself};
 ghost use Rattle.evm_model.specs.Laws.{ShiftsMoveAllCells, OperandsStand, DimIsOfValue, ValuesAreCellSets};
-ghost use Rattle.evm_model.specs.Laws.{OthersStay, OthersStand, InputsStartEmpty, BoxesCombine, DefinitionsHold, DropsTakeOut};
+ghost use Rattle.evm_model.specs.Laws.{OthersStay, OthersStand, InputsStartEmpty, BoxesCombine, ReplacementsHold, DefinitionsHold, DropsTakeOut};
 ghost use Rattle.evm_model.specs.Laws.{ChangedReachName, NewNamesChangeNone, DropsChangeNone, OneNameChanges};
 ghost use Rattle.evm_model.specs.Laws.{SameFigureStays, ToggleChangesName, ToggleCountsName};
+ghost use Rattle.evm_model.specs.Laws.{LoadsReadTheirFile, OthersReadNone, LoadsTakeFigure, MissingIsNoFile, MissingIsFetched, FormIsNoFigure};
+ghost use Rattle.evm_model.specs.Laws.{SavesPlaceValues, OnlySavesPlace, SavedBytesTellSolids, SavedBytesTellNames, SavedBytesLoad, FiguresAreCellSets};
+ghost use Rattle.evm_model.specs.Laws.{RefusedLeavesWorld, AnswersKeepWell, RunsKeepWell, RunLeavesFiles, SavedFileIsThere, FetchedIsTold};
 ghost use Rattle.evm_model.specs.Laws.{OneReplyEach, FrontOfRun, LaterLinesWait, LinesHaveNoLf, LinesMakeScript};
 
 /// Replies and their texts.
@@ -34,11 +39,12 @@ pub fn replies_show_refusals()
 
 /// What a line leaves.
 ///
-/// - `refused`: a refused line leaves the scene.
+/// - `refused`: a refused line leaves the scene, and places no file.
 /// - `questions`: a line that is no edit leaves the scene.
 /// - `limits`: an edit after which some formula would move a cell out of the limits is refused.
-/// - `memory`: no step answers want of memory.
+/// - `memory`: no step answers want of memory, or that the shelf failed.
 /// - `start`, `well`: each scene of a run is well.
+/// - `edits`: an edit that is not refused keeps a scene well, where a figure that it states is a cell set.
 pub fn steps_keep_scenes()
     ensures refused { RefusalChangesNothing }
     ensures questions { QuestionsLeaveScene }
@@ -46,6 +52,7 @@ pub fn steps_keep_scenes()
     ensures memory { StepHasMemory }
     ensures start { StartIsWell }
     ensures well { StepsKeepWell }
+    ensures edits { EditsKeepWell }
 {}
 
 /// What holds in each well scene, and so in each scene of a run.
@@ -75,6 +82,7 @@ pub fn values_follow_formulas()
 /// - `stand`: an edit makes and takes out no other name.
 /// - `input`: a new input has no cell.
 /// - `own`: `toggle`, `add` and `cut` make the exclusive or, the union and the difference with the box.
+/// - `replaced`: another figure for an input is its value.
 /// - `formula`: `def` makes what the formula makes of the values that its operands have, and keep.
 /// - `dropped`: after `drop` the name does not stand.
 /// - `same`: two figures are the same exactly where they are equal.
@@ -83,6 +91,7 @@ pub fn edits_change_their_names()
     ensures stand { OthersStand }
     ensures input { InputsStartEmpty }
     ensures own { BoxesCombine }
+    ensures replaced { ReplacementsHold }
     ensures formula { DefinitionsHold }
     ensures dropped { DropsTakeOut }
     ensures same { SameIsEqual }
@@ -105,11 +114,61 @@ pub fn changes_are_counted()
     ensures toggled { ToggleCountsName }
 {}
 
+/// Loads read files.
+///
+/// - `own`: a load depends on the bytes under the name of its file alone.
+/// - `others`: a line that fetches no file is the same whatever files there are.
+/// - `takes`: a load that is not refused gives its name the figure that the bytes state.
+/// - `missing`: a load is answered `no missing` exactly where nothing else refuses it before and there is no file of the name.
+/// - `fetched`: no line is answered `no missing` that fetches no file.
+/// - `form`: a load is answered `no form` exactly where it fetches bytes that state no figure in its form.
+/// - `cells`: each figure that bytes state is a cell set of the dimension that was asked for.
+pub fn loads_read_files()
+    ensures own { LoadsReadTheirFile }
+    ensures others { OthersReadNone }
+    ensures takes { LoadsTakeFigure }
+    ensures missing { MissingIsNoFile }
+    ensures fetched { MissingIsFetched }
+    ensures form { FormIsNoFigure }
+    ensures cells { FiguresAreCellSets }
+{}
+
+/// Saves write files.
+///
+/// - `places`: a save that is not refused places the bytes of the value of its name.
+/// - `only`: no other line places a file.
+/// - `solids`: two solids are saved in equal bytes exactly if they are equal.
+/// - `names`: so two names of one dimension are saved in equal bytes exactly if they have the same cells.
+/// - `loads`: bytes state a solid as an EVM file exactly if it is saved in these bytes.
+pub fn saves_write_files()
+    ensures places { SavesPlaceValues }
+    ensures only { OnlySavesPlace }
+    ensures solids { SavedBytesTellSolids }
+    ensures names { SavedBytesTellNames }
+    ensures loads { SavedBytesLoad }
+{}
+
+/// What the lines of a run leave of a scene and of the files of a shelf.
+///
+/// - `refused`: a refused line leaves the scene and the files.
+/// - `well`, `always`: each scene of a run is well.
+/// - `files`: a run leaves each file to which none of its lines saves.
+/// - `there`: a file that was saved is there.
+/// - `told`: a load over a shelf that does not tell its files is that over files that have what was fetched.
+pub fn runs_keep_worlds()
+    ensures refused { RefusedLeavesWorld }
+    ensures well { AnswersKeepWell }
+    ensures always { RunsKeepWell }
+    ensures files { RunLeavesFiles }
+    ensures there { SavedFileIsThere }
+    ensures told { FetchedIsTold }
+{}
+
 /// Runs go line by line.
 ///
 /// - `each`: as many lines are answered as there are marks.
 /// - `front`: the replies to a front of the lines are the front of the replies.
-/// - `later`: they do not depend on later lines.
+/// - `later`: they do not depend on later lines, and neither does the world after them.
 /// - `no_lf`, `script`: the lines of a script have no LF, and with an LF behind each they are the script again.
 pub fn runs_go_line_by_line()
     ensures each { OneReplyEach }

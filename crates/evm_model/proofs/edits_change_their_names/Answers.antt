@@ -1,4 +1,4 @@
-use Rattle.evm_model.proofs.EditLaws.{same_both, others_stay, boxes_combine}
+use Rattle.evm_model.proofs.EditLaws.{same_both, others_stay, boxes_combine, replaced}
 use Rattle.evm_model.proofs.ChangeLaws.{others_stand, input_empty, definition_holds, drop_gone}
 use Rattle.evm_model.proofs.edits_change_their_names.Goals as goal
 
@@ -13,6 +13,9 @@ returns-clause-input c = input_empty
 
 pub returns-clause-own : goal.returns-clause-own
 returns-clause-own c = boxes_combine
+
+pub returns-clause-replaced : goal.returns-clause-replaced
+returns-clause-replaced c = replaced
 
 pub returns-clause-formula : goal.returns-clause-formula
 returns-clause-formula c = definition_holds

@@ -1,0 +1,207 @@
+-- Files: the figures that bytes state, and the bytes that figures are saved in.
+use Rattle.std.proofs.Common.{◌≡◌, ℕ, ◌≤◌, Bool, true, false, cond, List, [], ◌∷◌, Option, Some, None, Result, Ok, Err, ℤ, pos, int_le, ◌⊎◌, inl, inr, ⊎_elim, refl, sym, ap, ◌∙◌, subst, bytes_eq, arith, nat_le, nat_abs}
+use Rattle.std.specs.Prelude.{◌↔◌, ◌==◌}
+use Rattle.std.proofs.lemmas.Bool.{eqb-false}
+use Rattle.std.proofs.lemmas.Bool.Decides.{Decides-eqb, nat_tests}
+use Rattle.std.proofs.lemmas.Int.{ints as int_facts}
+use Rattle.evm_cells.specs.Places.{ascending}
+use Rattle.evm_cells.specs.Limits.{IsCellSet}
+use Rattle.evm_cells.specs.Vertices.{cells}
+use Rattle.evm_cells.proofs.Combine.{cell_set-filter}
+use Rattle.evm_cells.proofs.Coords.{le_is}
+use Rattle.evm_cells.proofs.Core.{cells-evm}
+use Rattle.evm_cells.proofs.Universe.{cell_set-cells}
+use Rattle.evm_cells.proofs.Xor.{and_first, and_second}
+use Rattle.evm_file.specs.File.{file_of_cells, stated_rows, IsSolidCells}
+use Rattle.evm_file.proofs.Frames.{rows_of_file}
+use Rattle.evm_file.proofs.Laws.{vertices_of_cells, solid_of_cells, cell_sets}
+use Rattle.evm_boxes.specs.Unions.{Ends}
+use Rattle.evm_boxes.specs.BoxFile.{file_cells, union_or_refusal, boxes_of_file}
+use Rattle.evm_boxes.specs.Words.{lines}
+use Rattle.evm_boxes.specs.declared.BoxFileError.{BoxFileError}
+use Rattle.evm_boxes.proofs.UnionMembers.{cell_set-union}
+use Rattle.evm_voxels.specs.Samples.{Picture, image_cells, stack_cells, within, of_two, of_three, at_least, cells_of_images}
+use Rattle.evm_voxels.specs.Pgm.{Shot, map_ok, pictures, images_of, cells_of_shots, pgm_cells}
+use Rattle.evm_voxels.specs.Y4m.{Stream, stream, frames_of, cells_of_frames, with_stream, y4m_cells}
+use Rattle.evm_voxels.specs.declared.error.VoxelError.{VoxelError}
+use Rattle.evm_script.specs.declared.files.LoadForm.{LoadForm}
+use Rattle.evm_script.specs.declared.files.LoadForm.TheVariants as forms
+use Rattle.evm_script.specs.declared.files.SaveForm.TheVariants as saves
+use Rattle.evm_model.specs.Figures.{Figure, nothing}
+use Rattle.evm_model.specs.Files.{evm_figure, figure_stated, form_fits, figure_in, figure_fetched, or_nothing, bytes_in}
+use Rattle.evm_model.specs.Scene.{Scene, stands, dim_of, value, is_dim, IsWell}
+use Rattle.evm_model.proofs.Names.{by_test, same_name, equal_names}
+use Rattle.evm_model.proofs.WellScenes.{value_dim, value_cells}
+use Rattle.evm_model.proofs.WellEdits.{standing_dim}
+
+-- a figure of dimension n whose cells are a cell set
+abbrev pub HasCells : ℕ → Figure → Type 0
+HasCells n a = (a.dim ≡ n) × IsCellSet a.dim a.cells
+
+-- such a figure, or none
+abbrev pub IfCells : ℕ → Option Figure → Type 0
+IfCells n None = Unit {0}
+IfCells n (Some a) = HasCells n a
+
+no_cells : (n : ℕ) → IsCellSet n []
+unfolding ascending
+no_cells n = record { ascends = refl; cells = refl }
+
+nothing_set : (n : ℕ) → HasCells n (nothing n)
+unfolding nothing
+nothing_set n = (refl, no_cells n)
+
+-- dimensions that solids have are 1 to 6
+pub solid_dim : (n : ℕ) → is_dim (pos n) ≡ true → (2 ≤ n) × (n ≤ 6)
+solid_dim n d =
+    let low = le_is (pos 2) (pos n) (and_first (int_le (pos 2) (pos n)) (int_le (pos n) (pos 6)) d) in
+    let high = le_is (pos n) (pos 6) (and_second (int_le (pos 2) (pos n)) (int_le (pos n) (pos 6)) d) in
+    (omega (arith, int_facts, low), omega (arith, int_facts, high))
+
+-- ---- images
+
+-- those of images are 2 and 3
+image_dim : (n : ℕ) → is_dim (pos n) ≡ true → nat_le n 3 ≡ true → (n ≡ 2) ⊎ (n ≡ 3)
+image_dim n d h =
+    let (low, high) = solid_dim n d in
+    let few : n ≤ 3 = grind (arith, nat_tests, h) in
+    by_test (n == 2) (λ e. inl ((Decides-eqb n 2).0 e)) (λ e. inr (omega (arith, low, few, eqb-false n 2 e)))
+
+images_set : (n threshold w h : ℕ) (images : List Picture) → (n ≡ 2) ⊎ (n ≡ 3) → IsCellSet n (cells_of_images n threshold w h images)
+unfolding image_cells stack_cells
+images_set n threshold w h images d =
+    ⊎_elim
+    (λ (e : n ≡ 2). subst (λ (m : ℕ). IsCellSet m (cells_of_images m threshold w h images)) (sym e) (cell_set-filter 2 (within (w ∷ h ∷ []) (of_two (at_least threshold w images)))))
+    (λ (e : n ≡ 3). subst (λ (m : ℕ). IsCellSet m (cells_of_images m threshold w h images)) (sym e) (cell_set-filter 3 (within (w ∷ h ∷ _ ∷ []) (of_three (at_least threshold w images))))) d
+
+shots_set : (n threshold : ℕ) (ss : List Shot) → (n ≡ 2) ⊎ (n ≡ 3) → IsCellSet n (cells_of_shots n threshold ss)
+unfolding cells_of_shots
+shots_set n threshold [] d = no_cells n
+shots_set n threshold (s ∷ ss) d = images_set n threshold s.width s.height (pictures (s ∷ ss)) d
+
+frames_set : (n threshold w h : ℕ) (ps : List Picture) → (n ≡ 2) ⊎ (n ≡ 3) → IsCellSet n (cells_of_frames n threshold w h ps)
+frames_set n threshold w h [] d = no_cells n
+frames_set n threshold w h (p ∷ ps) d = images_set n threshold w h (p ∷ ps) d
+
+mapped : {A E : Type 0} (n : ℕ) (f : A → List (List ℤ)) (r : Result A E) → ((a : A) → IsCellSet n (f a)) → IfCells n (figure_stated n (map_ok f r))
+mapped n f (Ok a) h = (refl, h a)
+mapped n f (Err e) h = tt
+
+streamed : (n threshold : ℕ) (r : Result Stream VoxelError) → (n ≡ 2) ⊎ (n ≡ 3) → IfCells n (figure_stated n (with_stream n threshold r))
+streamed n threshold (Err e) d = tt
+streamed n threshold (Ok s) d = mapped n (cells_of_frames n threshold s.width s.height) (frames_of n s) (λ ps. frames_set n threshold s.width s.height ps d)
+
+pgm_set : (n threshold : ℕ) (bytes : List ℕ) → (n ≡ 2) ⊎ (n ≡ 3) → IfCells n (figure_stated n (pgm_cells n threshold bytes))
+unfolding pgm_cells
+pgm_set n threshold bytes d = mapped n (cells_of_shots n threshold) (images_of n bytes) (λ ss. shots_set n threshold ss d)
+
+y4m_set : (n threshold : ℕ) (bytes : List ℕ) → (n ≡ 2) ⊎ (n ≡ 3) → IfCells n (figure_stated n (y4m_cells n threshold bytes))
+unfolding y4m_cells
+y4m_set n threshold bytes d = streamed n threshold (stream n bytes) d
+
+-- ---- boxes and EVM files
+
+united : (n : ℕ) (r : Result (List Ends) BoxFileError) → IfCells n (figure_stated n (union_or_refusal n r))
+united n (Ok boxes) = (refl, cell_set-union n boxes)
+united n (Err e) = tt
+
+boxes_set : (n : ℕ) (bytes : List ℕ) → IfCells n (figure_stated n (file_cells n bytes))
+unfolding file_cells
+boxes_set n bytes = united n (boxes_of_file n (lines bytes))
+
+-- the figure of the rows that bytes state
+abbrev pub row_figure : ℕ → List ℕ → Figure
+row_figure n bytes = record { dim = n; cells = cells n (stated_rows bytes) }
+
+-- the bytes are its file
+abbrev pub is_its_file : ℕ → List ℕ → Bool
+is_its_file n bytes = bytes_eq bytes (file_of_cells n (cells n (stated_rows bytes)))
+
+evm_set : (n : ℕ) (bytes : List ℕ) → IfCells n (evm_figure n bytes)
+evm_set n bytes =
+    elim (is_its_file n bytes) as (λ b. IfCells n (cond b (Some (row_figure n bytes)) None)) [ true ↦ (refl, cell_set-cells n (stated_rows bytes)) | false ↦ tt ]
+
+-- ---- all forms
+
+pub figure_set : (form : LoadForm) (n : ℕ) (bytes : List ℕ) → is_dim (pos n) ≡ true → form_fits form n ≡ true → IfCells n (figure_in form n bytes)
+unfolding figure_in
+figure_set forms.Evm n bytes d h = evm_set n bytes
+figure_set forms.Boxes n bytes d h = boxes_set n bytes
+figure_set (forms.Pgm threshold) n bytes d h = pgm_set n (nat_abs threshold) bytes (image_dim n d h)
+figure_set (forms.Y4m threshold) n bytes d h = y4m_set n (nat_abs threshold) bytes (image_dim n d h)
+
+pub figures_are : (form : LoadForm) (n : ℕ) (bytes : List ℕ) (a : Figure) → is_dim (pos n) ≡ true → form_fits form n ≡ true → figure_in form n bytes ≡ Some a → HasCells n a
+figures_are form n bytes a d h e = subst (λ (o : Option Figure). IfCells n o) e (figure_set form n bytes d h)
+
+or_set : (n : ℕ) (o : Option Figure) → IfCells n o → HasCells n (or_nothing n o)
+or_set n None h = nothing_set n
+or_set n (Some a) h = h
+
+-- what a load takes is a cell set, whatever was fetched
+pub loaded_set : (form : LoadForm) (n : ℕ) (got : Option (List ℕ)) → is_dim (pos n) ≡ true → form_fits form n ≡ true → HasCells n (or_nothing n (figure_fetched form n got))
+loaded_set form n None d h = nothing_set n
+loaded_set form n (Some bytes) d h = or_set n (figure_in form n bytes) (figure_set form n bytes d h)
+
+-- ---- saved bytes
+
+pub one_figure : (a b : Figure) → a.dim ≡ b.dim → a.cells ≡ b.cells → a ≡ b
+one_figure a b d c = λ i. record { dim = d i; cells = c i }
+
+-- two solids have equal files exactly if they are equal
+pub told_apart : (a b : Figure) → IsSolidCells a.dim a.cells → IsSolidCells b.dim b.cells → (bytes_in saves.Evm a ≡ bytes_in saves.Evm b) ↔ (a ≡ b)
+unfolding bytes_in
+told_apart a b s t =
+    let law = cell_sets a.dim b.dim a.cells b.cells s t in
+    (λ e. one_figure a b (law.0 e).0 (law.0 e).1, λ e. ap (λ (x : Figure). file_of_cells x.dim x.cells) e)
+
+-- the value of a name that stands is a solid
+pub solid_value : (scene : Scene) (name : List ℕ) → IsWell scene → stands scene name ≡ true → IsSolidCells (value scene name).dim (value scene name).cells
+solid_value scene name well h =
+    let (low, high) = solid_dim (value scene name).dim (subst (λ (n : ℕ). is_dim (pos n) ≡ true) (value_dim scene well name) (standing_dim scene well name h)) in
+    record { low = omega (arith, low); high = high; cells = value_cells scene well name }
+
+pub told_names : (scene : Scene) (x y : List ℕ) → IsWell scene → stands scene x ≡ true → stands scene y ≡ true → dim_of scene x ≡ dim_of scene y
+    → (bytes_in saves.Evm (value scene x) ≡ bytes_in saves.Evm (value scene y)) ↔ ((value scene x).cells ≡ (value scene y).cells)
+told_names scene x y well h k d =
+    let law = told_apart (value scene x) (value scene y) (solid_value scene x well h) (solid_value scene y well k) in
+    (λ e. ap (λ (a : Figure). a.cells) (law.0 e), λ e. law.1 (one_figure (value scene x) (value scene y) (sym (value_dim scene well x) ∙ d ∙ value_dim scene well y) e))
+
+-- bytes state a solid exactly if they are its file
+some_same : (a b : Figure) → Some a ≡ Some b → a ≡ b
+some_same a b e = cc
+
+none_some : (a : Figure) → None ≡ Some a → ⊥
+none_some a e = cc
+
+loads_saved : (a : Figure) (bytes : List ℕ) → IsSolidCells a.dim a.cells → bytes ≡ file_of_cells a.dim a.cells → evm_figure a.dim bytes ≡ Some a
+loads_saved a bytes s e =
+    ap (λ (b : Bool). cond b (Some (row_figure a.dim bytes)) None) (equal_names bytes (file_of_cells a.dim (cells a.dim (stated_rows bytes))) (e ∙ ap (file_of_cells a.dim) (sym again)))
+    ∙ ap (λ (c : List (List ℤ)). Some (record { dim = a.dim; cells = c })) again
+  where
+    again : cells a.dim (stated_rows bytes) ≡ a.cells
+    again =
+        ap (λ (x : List ℕ). cells a.dim (stated_rows x)) e
+        ∙ ap (cells a.dim) (rows_of_file (vertices_of_cells a.dim a.cells) (solid_of_cells a.dim a.cells s))
+        ∙ cells-evm a.dim a.cells s.cells
+
+saved_loads : (a : Figure) (bytes : List ℕ) → evm_figure a.dim bytes ≡ Some a → bytes ≡ file_of_cells a.dim a.cells
+saved_loads a bytes = by (is_its_file a.dim bytes) refl
+  where
+    by : (b : Bool) → is_its_file a.dim bytes ≡ b → cond b (Some (row_figure a.dim bytes)) None ≡ Some a → bytes ≡ file_of_cells a.dim a.cells
+    by true q e =
+        same_name bytes (file_of_cells a.dim (cells a.dim (stated_rows bytes))) q
+        ∙ ap (λ (x : Figure). file_of_cells x.dim x.cells) (some_same (row_figure a.dim bytes) a e)
+    by false q e = absurd (none_some a e)
+
+pub loaded_is_saved : (bytes : List ℕ) (a : Figure) → IsSolidCells a.dim a.cells → (figure_in forms.Evm a.dim bytes ≡ Some a) ↔ (bytes ≡ bytes_in saves.Evm a)
+unfolding figure_in bytes_in
+loaded_is_saved bytes a s = (saved_loads a bytes, loads_saved a bytes s)
+
+-- bytes that are the file of no cell set of a dimension state no figure of it
+pub none_loaded : (n : ℕ) (bytes : List ℕ) → ((S : List (List ℤ)) → IsCellSet n S → bytes ≡ file_of_cells n S → ⊥) → figure_in forms.Evm n bytes ≡ None
+unfolding figure_in
+none_loaded n bytes other = by (is_its_file n bytes) refl
+  where
+    by : (b : Bool) → is_its_file n bytes ≡ b → cond b (Some (row_figure n bytes)) None ≡ None
+    by true q = absurd (other (cells n (stated_rows bytes)) (cell_set-cells n (stated_rows bytes)) (same_name bytes (file_of_cells n (cells n (stated_rows bytes))) q))
+    by false q = refl

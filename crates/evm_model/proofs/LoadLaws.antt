@@ -1,0 +1,346 @@
+-- Loads: what refuses them, and what they take from their file.
+use Rattle.std.proofs.Common.{◌≡◌, Bool, true, false, not, cond, List, [], ◌∷◌, ◌++◌, Option, Some, None, Ok, refl, sym, ap, ◌∙◌}
+use Rattle.std.specs.Prelude.{ℕ, ◌==◌, is_none, ◌↔◌}
+use Rattle.std.specs.List.{list_all}
+use Rattle.std.proofs.lemmas.Bool.{false≢true}
+use Rattle.std.proofs.lemmas.Bool.Decides.{Decides-eqb}
+use Rattle.evm_cells.proofs.Xor.{and_first, and_second}
+use Rattle.evm_script.specs.Line.{command}
+use Rattle.evm_script.specs.declared.command.Command.TheVariants as commands
+use Rattle.evm_script.specs.declared.files.LoadForm.{LoadForm}
+use Rattle.evm_model.specs.Figures.{Figure}
+use Rattle.evm_model.specs.Files.{Fetches, form_fits, form_in_range, figure_in, figure_fetched, or_nothing}
+use Rattle.evm_model.specs.Scene.{Scene, stands, dim_of, is_input, value, with_figure, all_stay, IsWell}
+use Rattle.evm_model.specs.Edits.{Replace, Code, Name, Kind, Dim, Range, Missing, Form, first_cause, figure_causes, value_causes, refusal, after, changed}
+use Rattle.evm_model.specs.Replies.{No, Changed, is_no}
+use Rattle.evm_model.specs.Steps.{Turn, unless_refused, load_causes, loaded, file_causes, load_turn, line_turn, step, command_fetches, of_line, fetches}
+use Rattle.evm_model.proofs.Names.{not_false, not_true}
+use Rattle.evm_model.proofs.Refusals.{none_first, none_later, none_front, none_back}
+use Rattle.evm_model.proofs.WellEdits.{standing_dim, well_figure}
+use Rattle.evm_model.proofs.EditLaws.{value_own}
+use Rattle.evm_model.proofs.FileLaws.{HasCells, loaded_set}
+
+-- the first cause passes a test that the codes of all causes pass
+pub first_passes : (test : Code → Bool) (causes : List (Bool × Code)) (code : Code) → list_all (λ (c : Bool × Code). test c.1) causes ≡ true → first_cause causes ≡ Some code → test code ≡ true
+first_passes test [] code h e = absurd (no_some e)
+  where
+    no_some : None ≡ Some code → ⊥
+    no_some q = cc
+first_passes test (c ∷ cs) code h e =
+    elim c.0 as (λ b. cond b (Some c.1) (first_cause cs) ≡ Some code → test code ≡ true) [
+      | true ↦ λ k. ap test (sym (same_code k)) ∙ and_first (test c.1) (list_all (λ (d : Bool × Code). test d.1) cs) h
+      | false ↦ λ k. first_passes test cs code (and_second (test c.1) (list_all (λ (d : Bool × Code). test d.1) cs) h) k
+    ] e
+  where
+    same_code : Some c.1 ≡ Some code → c.1 ≡ code
+    same_code q = cc
+
+-- the first cause of a front, and of what is behind a front without causes
+pub first_front : (cs ds : List (Bool × Code)) (code : Code) → first_cause cs ≡ Some code → first_cause (cs ++ ds) ≡ Some code
+first_front [] ds code e = absurd (no_some e)
+  where
+    no_some : None ≡ Some code → ⊥
+    no_some q = cc
+first_front (c ∷ cs) ds code e =
+    elim c.0 as (λ b. cond b (Some c.1) (first_cause cs) ≡ Some code → cond b (Some c.1) (first_cause (cs ++ ds)) ≡ Some code) [ true ↦ λ k. k | false ↦ λ k. first_front cs ds code k ] e
+
+pub first_back : (cs ds : List (Bool × Code)) → first_cause cs ≡ None → first_cause (cs ++ ds) ≡ first_cause ds
+first_back [] ds e = refl
+first_back (c ∷ cs) ds e =
+    elim c.0 as (λ b. cond b (Some c.1) (first_cause cs) ≡ None → cond b (Some c.1) (first_cause (cs ++ ds)) ≡ first_cause ds) [ true ↦ λ k. absurd (no_some k) | false ↦ λ k. first_back cs ds k ] e
+  where
+    no_some : Some c.1 ≡ None → ⊥
+    no_some q = cc
+
+pub some_cause : (o : Option Code) → is_none o ≡ false → (code : Code) × (o ≡ Some code)
+some_cause None h = absurd (false≢true (sym h))
+some_cause (Some code) h = (code, refl)
+
+pub no_cause : (o : Option Code) → is_none o ≡ true → o ≡ None
+no_cause None h = refl
+no_cause (Some code) h = absurd (false≢true h)
+
+-- a turn refuses by a code exactly where the code is the first cause
+refused_so : (o : Option Code) (scene : Scene) (turn : Turn) (code : Code) → is_no turn.reply ≡ false → (unless_refused o scene turn).reply ≡ No code → o ≡ Some code
+refused_so None scene turn code h e = absurd (false≢true (sym h ∙ ap is_no e))
+refused_so (Some c) scene turn code h e = ap (λ (d : Code). Some d) (same_code e)
+  where
+    same_code : No c ≡ No code → c ≡ code
+    same_code q = cc
+
+-- what a line does that loads
+pub load_step : (fetched : Fetches) (scene : Scene) (line name file : List ℕ) (form : LoadForm) → command line ≡ Ok (commands.Load name form file)
+    → step fetched scene line ≡ load_turn fetched scene name form file
+unfolding step
+load_step fetched scene line name file form e = ap (line_turn fetched scene) e
+
+load_fetches : (scene : Scene) (line name file : List ℕ) (form : LoadForm) → command line ≡ Ok (commands.Load name form file) → fetches scene line ≡ is_none (first_cause (load_causes scene name form))
+unfolding fetches
+load_fetches scene line name file form e = ap (of_line (command_fetches scene)) e
+
+-- a load that is not refused
+pub record IsLoad (fetched : Fetches) (scene : Scene) (name file : List ℕ) (form : LoadForm) : Type 0 where
+  pub standing : stands scene name ≡ true
+  pub input : is_input scene name ≡ true
+  pub fits : form_fits form (dim_of scene name) ≡ true
+  pub range : form_in_range form ≡ true
+  pub stated : is_none (figure_fetched form (dim_of scene name) (fetched file)) ≡ false
+  pub stay : all_stay (with_figure scene name (loaded fetched scene name form file)) ≡ true
+
+pub load_for : (fetched : Fetches) (scene : Scene) (name file : List ℕ) (form : LoadForm)
+    → first_cause (load_causes scene name form ++ file_causes fetched scene name form file) ≡ None → IsLoad fetched scene name file form
+load_for fetched scene name file form r = record {
+  standing = not_false (stands scene name) (none_first (not (stands scene name), Name) kind first);
+  input = not_false (is_input scene name) (none_first (not (is_input scene name), Kind) dims second);
+  fits = not_false (form_fits form (dim_of scene name)) (none_first (not (form_fits form (dim_of scene name)), Dim) range third);
+  range = not_false (form_in_range form) (none_first (not (form_in_range form), Range) [] (none_later (not (form_fits form (dim_of scene name)), Dim) range third));
+  stated = none_first (is_none (figure_fetched form (dim_of scene name) (fetched file)), Form) left behind;
+  stay = not_false (all_stay (with_figure scene name (loaded fetched scene name form file)))
+      (none_first (not (all_stay (with_figure scene name (loaded fetched scene name form file))), Range) []
+      (none_later (is_none (figure_fetched form (dim_of scene name) (fetched file)), Form) left behind));
+}
+  where
+    first : first_cause (load_causes scene name form) ≡ None
+    first = none_front (load_causes scene name form) (file_causes fetched scene name form file) r
+
+    range : List (Bool × Code)
+    range = (not (form_in_range form), Range) ∷ []
+
+    dims : List (Bool × Code)
+    dims = (not (form_fits form (dim_of scene name)), Dim) ∷ range
+
+    kind : List (Bool × Code)
+    kind = (not (is_input scene name), Kind) ∷ dims
+
+    second : first_cause kind ≡ None
+    second = none_later (not (stands scene name), Name) kind first
+
+    third : first_cause dims ≡ None
+    third = none_later (not (is_input scene name), Kind) dims second
+
+    left : List (Bool × Code)
+    left = value_causes (with_figure scene name (loaded fetched scene name form file))
+
+    behind : first_cause ((is_none (figure_fetched form (dim_of scene name) (fetched file)), Form) ∷ left) ≡ None
+    behind =
+        none_later (is_none (fetched file), Missing) ((is_none (figure_fetched form (dim_of scene name) (fetched file)), Form) ∷ left)
+        (none_back (load_causes scene name form) (file_causes fetched scene name form file) r)
+
+-- the figure of a load is a cell set of the dimension of its name
+load_set : (fetched : Fetches) (scene : Scene) (name file : List ℕ) (form : LoadForm) → IsWell scene → IsLoad fetched scene name file form → HasCells (dim_of scene name) (loaded fetched scene name form file)
+load_set fetched scene name file form well l = loaded_set form (dim_of scene name) (fetched file) (standing_dim scene well name l.standing) l.fits
+
+-- a load keeps a scene well
+pub well_load : (fetched : Fetches) (scene : Scene) (name file : List ℕ) (form : LoadForm) → IsWell scene → IsWell (load_turn fetched scene name form file).scene
+well_load fetched scene name file form well = by_cause (first_cause (load_causes scene name form ++ file_causes fetched scene name form file)) refl
+  where
+    new : Figure
+    new = loaded fetched scene name form file
+
+    turn : Turn
+    turn = record { reply = Changed (changed scene (Replace name new)); scene = after scene (Replace name new); placed = None }
+
+    by_cause : (o : Option Code) → first_cause (load_causes scene name form ++ file_causes fetched scene name form file) ≡ o → IsWell (unless_refused o scene turn).scene
+    by_cause None e =
+        let l = load_for fetched scene name file form e in
+        let set = load_set fetched scene name file form well l in
+        well_figure scene name new well (sym set.0) set.1 l.stay
+    by_cause (Some code) e = well
+
+-- a load is the same for two shelves that have the same under its file's name
+pub load_reads : (f g : Fetches) (scene : Scene) (line name file : List ℕ) (form : LoadForm) → command line ≡ Ok (commands.Load name form file) → f file ≡ g file → step f scene line ≡ step g scene line
+load_reads f g scene line name file form e same =
+    load_step f scene line name file form e
+    ∙ ap (λ (got : Option (List ℕ)). load_turn (λ o. got) scene name form file) same
+    ∙ sym (load_step g scene line name file form e)
+
+-- a figure that is there
+there : (n : ℕ) (o : Option Figure) → is_none o ≡ false → o ≡ Some (or_nothing n o)
+there n None h = absurd (false≢true (sym h))
+there n (Some a) h = refl
+
+-- a load that is not refused gives its name the figure of the file
+load_takes : (fetched : Fetches) (scene : Scene) (name file : List ℕ) (form : LoadForm) → is_no (load_turn fetched scene name form file).reply ≡ false
+    → figure_fetched form (dim_of scene name) (fetched file) ≡ Some (value (load_turn fetched scene name form file).scene name)
+load_takes fetched scene name file form = by_cause (first_cause (load_causes scene name form ++ file_causes fetched scene name form file)) refl
+  where
+    new : Figure
+    new = loaded fetched scene name form file
+
+    turn : Turn
+    turn = record { reply = Changed (changed scene (Replace name new)); scene = after scene (Replace name new); placed = None }
+
+    by_cause : (o : Option Code) → first_cause (load_causes scene name form ++ file_causes fetched scene name form file) ≡ o → is_no (unless_refused o scene turn).reply ≡ false
+        → figure_fetched form (dim_of scene name) (fetched file) ≡ Some (value (unless_refused o scene turn).scene name)
+    by_cause None e h =
+        let l = load_for fetched scene name file form e in
+        there (dim_of scene name) (figure_fetched form (dim_of scene name) (fetched file)) l.stated ∙ ap (λ (a : Figure). Some a) (sym (value_own scene name new l.standing))
+    by_cause (Some code) e h = absurd (false≢true (sym h))
+
+pub takes_figure : (fetched : Fetches) (scene : Scene) (line name file : List ℕ) (form : LoadForm) → command line ≡ Ok (commands.Load name form file)
+    → is_no (step fetched scene line).reply ≡ false → figure_fetched form (dim_of scene name) (fetched file) ≡ Some (value (step fetched scene line).scene name)
+takes_figure fetched scene line name file form e h =
+    load_takes fetched scene name file form (sym (ap (λ (t : Turn). is_no t.reply) same) ∙ h) ∙ ap (λ (t : Turn). Some (value t.scene name)) (sym same)
+  where
+    same : step fetched scene line ≡ load_turn fetched scene name form file
+    same = load_step fetched scene line name file form e
+
+-- ---- what refuses a load by its file
+
+-- the turn of a load that nothing refuses
+abbrev load_made : Fetches → Scene → List ℕ → LoadForm → List ℕ → Turn
+load_made fetched scene name form file = record {
+  reply = Changed (changed scene (Replace name (loaded fetched scene name form file)));
+  scene = after scene (Replace name (loaded fetched scene name form file));
+  placed = None;
+}
+
+abbrev pub is_missing : Code → Bool
+is_missing Missing = true
+is_missing _ = false
+
+abbrev pub is_form : Code → Bool
+is_form Form = true
+is_form _ = false
+
+-- a code that no cause has is not the first
+absent : (test : Code → Bool) (causes : List (Bool × Code)) (code : Code) → list_all (λ (c : Bool × Code). not (test c.1)) causes ≡ true → test code ≡ true → first_cause causes ≡ Some code → ⊥
+absent test causes code h t e = false≢true (sym (not_true (test code) (first_passes (λ c. not (test c)) causes code h e)) ∙ t)
+
+-- a code of a file is the first cause of a load exactly where nothing refuses before
+by_file : (test : Code → Bool) (cs ds : List (Bool × Code)) (code : Code) → list_all (λ (c : Bool × Code). not (test c.1)) cs ≡ true → test code ≡ true → first_cause (cs ++ ds) ≡ Some code
+    → (is_none (first_cause cs) ≡ true) × (first_cause ds ≡ Some code)
+by_file test cs ds code h t e = by (first_cause cs) refl
+  where
+    by : (o : Option Code) → first_cause cs ≡ o → (is_none o ≡ true) × (first_cause ds ≡ Some code)
+    by None q = (refl, sym (first_back cs ds q) ∙ e)
+    by (Some c) q = absurd (absent test cs code h t (q ∙ sym (first_front cs ds c q) ∙ e))
+
+missing_nothing : (o : Option (List ℕ)) (ds : List (Bool × Code)) → list_all (λ (c : Bool × Code). not (is_missing c.1)) ds ≡ true → first_cause ((is_none o, Missing) ∷ ds) ≡ Some Missing → o ≡ None
+missing_nothing None ds h e = refl
+missing_nothing (Some bytes) ds h e = absurd (absent is_missing ds Missing h refl e)
+
+form_bytes : (form : LoadForm) (n : ℕ) (o : Option (List ℕ)) (ds : List (Bool × Code)) → list_all (λ (c : Bool × Code). not (is_form c.1)) ds ≡ true
+    → first_cause ((is_none o, Missing) ∷ (is_none (figure_fetched form n o), Form) ∷ ds) ≡ Some Form → (bytes : List ℕ) × (o ≡ Some bytes) × (figure_in form n bytes ≡ None)
+form_bytes form n None ds h e = absurd (no_form e)
+  where
+    no_form : Some Missing ≡ Some Form → ⊥
+    no_form q = cc
+form_bytes form n (Some bytes) ds h e = (bytes, refl, by (figure_in form n bytes) e)
+  where
+    by : (a : Option Figure) → first_cause ((is_none a, Form) ∷ ds) ≡ Some Form → a ≡ None
+    by None q = refl
+    by (Some a) q = absurd (absent is_form ds Form h refl q)
+
+missing_first : (got : Option (List ℕ)) (ds : List (Bool × Code)) → got ≡ None → first_cause ((is_none got, Missing) ∷ ds) ≡ Some Missing
+missing_first got ds e = ap (λ (x : Option (List ℕ)). first_cause ((is_none x, Missing) ∷ ds)) e
+
+pub missing_is : (fetched : Fetches) (scene : Scene) (line name file : List ℕ) (form : LoadForm) → command line ≡ Ok (commands.Load name form file)
+    → ((step fetched scene line).reply ≡ No Missing) ↔ ((fetches scene line ≡ true) × (fetched file ≡ None))
+missing_is fetched scene line name file form e = (into, from)
+  where
+    before : List (Bool × Code)
+    before = load_causes scene name form
+
+    behind : List (Bool × Code)
+    behind = file_causes fetched scene name form file
+
+    into : (step fetched scene line).reply ≡ No Missing → (fetches scene line ≡ true) × (fetched file ≡ None)
+    into q =
+        let first = refused_so (first_cause (before ++ behind)) scene (load_made fetched scene name form file) Missing refl (sym (ap (λ (t : Turn). t.reply) (load_step fetched scene line name file form e)) ∙ q) in
+        let parts = by_file is_missing before behind Missing refl refl first in
+        (load_fetches scene line name file form e ∙ parts.0, missing_nothing (fetched file) ((is_none (figure_fetched form (dim_of scene name) (fetched file)), Form) ∷ value_causes (with_figure scene name (loaded fetched scene name form file))) refl parts.1)
+
+    from : (fetches scene line ≡ true) × (fetched file ≡ None) → (step fetched scene line).reply ≡ No Missing
+    from h =
+        ap (λ (t : Turn). t.reply) (load_step fetched scene line name file form e)
+        ∙ ap (λ (o : Option Code). (unless_refused o scene (load_made fetched scene name form file)).reply)
+        (first_back before behind (no_cause (first_cause before) (sym (load_fetches scene line name file form e) ∙ h.0))
+        ∙ missing_first (fetched file) ((is_none (figure_fetched form (dim_of scene name) (fetched file)), Form) ∷ value_causes (with_figure scene name (loaded fetched scene name form file))) h.1)
+
+form_first : (form : LoadForm) (n : ℕ) (got : Option (List ℕ)) (bytes : List ℕ) (ds : List (Bool × Code)) → got ≡ Some bytes → figure_in form n bytes ≡ None
+    → first_cause ((is_none got, Missing) ∷ (is_none (figure_fetched form n got), Form) ∷ ds) ≡ Some Form
+form_first form n got bytes ds found none =
+    ap (λ (x : Option (List ℕ)). first_cause ((is_none x, Missing) ∷ (is_none (figure_fetched form n x), Form) ∷ ds)) found
+    ∙ ap (λ (x : Option Figure). first_cause ((is_none x, Form) ∷ ds)) none
+
+pub form_is : (fetched : Fetches) (scene : Scene) (line name file : List ℕ) (form : LoadForm) → command line ≡ Ok (commands.Load name form file)
+    → ((step fetched scene line).reply ≡ No Form) ↔ ((fetches scene line ≡ true) × ((bytes : List ℕ) × (fetched file ≡ Some bytes) × (figure_in form (dim_of scene name) bytes ≡ None)))
+form_is fetched scene line name file form e = (into, from)
+  where
+    before : List (Bool × Code)
+    before = load_causes scene name form
+
+    behind : List (Bool × Code)
+    behind = file_causes fetched scene name form file
+
+    into : (step fetched scene line).reply ≡ No Form → (fetches scene line ≡ true) × ((bytes : List ℕ) × (fetched file ≡ Some bytes) × (figure_in form (dim_of scene name) bytes ≡ None))
+    into q =
+        let first = refused_so (first_cause (before ++ behind)) scene (load_made fetched scene name form file) Form refl (sym (ap (λ (t : Turn). t.reply) (load_step fetched scene line name file form e)) ∙ q) in
+        let parts = by_file is_form before behind Form refl refl first in
+        (load_fetches scene line name file form e ∙ parts.0, form_bytes form (dim_of scene name) (fetched file) (value_causes (with_figure scene name (loaded fetched scene name form file))) refl parts.1)
+
+    from : (fetches scene line ≡ true) × ((bytes : List ℕ) × (fetched file ≡ Some bytes) × (figure_in form (dim_of scene name) bytes ≡ None)) → (step fetched scene line).reply ≡ No Form
+    from h =
+        let (bytes, found, none) = h.1 in
+        ap (λ (t : Turn). t.reply) (load_step fetched scene line name file form e)
+        ∙ ap (λ (o : Option Code). (unless_refused o scene (load_made fetched scene name form file)).reply)
+        (first_back before behind (no_cause (first_cause before) (sym (load_fetches scene line name file form e) ∙ h.0))
+        ∙ form_first form (dim_of scene name) (fetched file) bytes (value_causes (with_figure scene name (loaded fetched scene name form file))) found none)
+
+-- what refuses another figure for an input of its dimension is none of the first causes
+no_figure_cause : (a b c : Bool) → a ≡ true → b ≡ true → c ≡ true → first_cause ((not a, Name) ∷ (not b, Kind) ∷ (not c, Dim) ∷ []) ≡ None
+no_figure_cause true true true h k m = refl
+no_figure_cause false b c h k m = absurd (false≢true h)
+no_figure_cause true false c h k m = absurd (false≢true k)
+no_figure_cause true true false h k m = absurd (false≢true m)
+
+-- a file that states a figure is there
+found_there : (form : LoadForm) (n : ℕ) (got : Option (List ℕ)) → is_none (figure_fetched form n got) ≡ false → is_none got ≡ false
+found_there form n None h = absurd (false≢true (sym h))
+found_there form n (Some bytes) h = refl
+
+behind_none : (a b : Bool) (ds : List (Bool × Code)) → a ≡ false → b ≡ false → first_cause ((a, Missing) ∷ (b, Form) ∷ ds) ≡ first_cause ds
+behind_none false false ds h k = refl
+behind_none true b ds h k = absurd (false≢true (sym h))
+behind_none false true ds h k = absurd (false≢true (sym k))
+
+-- a load that finds a figure is refused by what refuses the edit that puts the figure in the place of that of its name
+pub load_refusal : (fetched : Fetches) (scene : Scene) (name file : List ℕ) (form : LoadForm) → IsWell scene → first_cause (load_causes scene name form) ≡ None
+    → is_none (figure_fetched form (dim_of scene name) (fetched file)) ≡ false
+    → first_cause (load_causes scene name form ++ file_causes fetched scene name form file) ≡ refusal scene (Replace name (loaded fetched scene name form file))
+load_refusal fetched scene name file form well clear found =
+    first_back (load_causes scene name form) (file_causes fetched scene name form file) clear
+    ∙ behind_none (is_none (fetched file)) (is_none (figure_fetched form (dim_of scene name) (fetched file))) left
+    (found_there form (dim_of scene name) (fetched file) found) found
+    ∙ sym (first_back (figure_causes scene name new) left (no_figure_cause (stands scene name) (is_input scene name) (new.dim == dim_of scene name) standing input same))
+  where
+    new : Figure
+    new = loaded fetched scene name form file
+
+    left : List (Bool × Code)
+    left = value_causes (with_figure scene name new)
+
+    range : List (Bool × Code)
+    range = (not (form_in_range form), Range) ∷ []
+
+    dims : List (Bool × Code)
+    dims = (not (form_fits form (dim_of scene name)), Dim) ∷ range
+
+    kind : List (Bool × Code)
+    kind = (not (is_input scene name), Kind) ∷ dims
+
+    second : first_cause kind ≡ None
+    second = none_later (not (stands scene name), Name) kind clear
+
+    standing : stands scene name ≡ true
+    standing = not_false (stands scene name) (none_first (not (stands scene name), Name) kind clear)
+
+    input : is_input scene name ≡ true
+    input = not_false (is_input scene name) (none_first (not (is_input scene name), Kind) dims second)
+
+    fits : form_fits form (dim_of scene name) ≡ true
+    fits = not_false (form_fits form (dim_of scene name)) (none_first (not (form_fits form (dim_of scene name)), Dim) range (none_later (not (is_input scene name), Kind) dims second))
+
+    same : (new.dim == dim_of scene name) ≡ true
+    same = (Decides-eqb new.dim (dim_of scene name)).1 (loaded_set form (dim_of scene name) (fetched file) (standing_dim scene well name standing) fits).0
