@@ -7,10 +7,10 @@ ghost use Rattle.evm_rows.specs.Rows.{combined_rows};
 ghost use Rattle.evm_rows.specs.View.{vertices_of};
 ghost use Rattle.evm_boolean.specs.Tower.{lower, after, section_at, fills, or_vertices, and_vertices, sub_vertices};
 
+use crate::merge::{append_couplet, section_after};
 use crate::plane::combine_planes;
 use crate::runs::combine_runs;
-use crate::tower::append_couplet;
-use evm_rows::{NoMemory, Rows, Solid, append_rows, xor_into};
+use evm_rows::{NoMemory, Rows, Solid, append_rows};
 use evm_sections::Walk;
 use std::alloc::Global;
 
@@ -73,7 +73,7 @@ fn advance(
     match walk.next_couplet() {
         None => Ok((section, spare)),
         Some((_, couplet)) => {
-            let next = xor_into(spare, section.rows(), couplet)?;
+            let next = section_after(spare, section.rows(), couplet)?;
             Ok((next, section))
         }
     }

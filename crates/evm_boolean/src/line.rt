@@ -175,6 +175,7 @@ fn append_number(out: &mut Vec<i32>, at: i32, yes: bool) -> Result<(), AllocErro
 }
 
 /// Appends the rows, at a height, at which the Boolean of two lines changes where the lines change.
+#[inline(always)]
 pub fn append_gain(
     out: &mut Vec<i32>,
     op: Op2,
@@ -210,6 +211,7 @@ pub fn append_gain(
 }
 
 /// The line after a change, in the room of a list that is done with.
+#[inline(always)]
 pub fn changed(room: Vec<i32>, line: &[i32], change: Rows<'_>) -> Result<Vec<i32>, AllocError>
     requires line { AreRows line.now 1 0 }
     requires change { (vertices_of change).dim ≡ 1 }

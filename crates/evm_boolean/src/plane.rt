@@ -11,7 +11,8 @@ use evm_rows::{NoMemory, Rows, Solid};
 use evm_sections::Walk;
 use std::alloc::{AllocError, Global};
 
-// A view of dimension 1 without rows, that lives as long as another view.
+// A view of dimension 1 without rows, as wide as the couplets of a view of dimension 2, and lasting as long.
+#[inline(always)]
 fn none_of<'a>(a: Rows<'a>) -> Rows<'a>
     ensures dim { (vertices_of result).dim ≡ 1 }
     ensures rows { (vertices_of result).rows ≡ [] }
@@ -19,12 +20,13 @@ fn none_of<'a>(a: Rows<'a>) -> Rows<'a>
     let (nothing, _) = a.flat.split_at(0);
     Rows {
         flat: nothing,
-        width: 1,
-        skip: 0,
+        width: a.width,
+        skip: a.width - 1,
     }
 }
 
 // The couplet at the height, or `none`, which is empty. The walk goes past the height.
+#[inline(always)]
 fn couplet_at<'a>(walk: &mut Walk<'a>, height: i32, none: Rows<'a>) -> Rows<'a>
     requires line { walk.old.dim ≡ 1 }
     requires none_line { (vertices_of none).dim ≡ 1 }
@@ -44,6 +46,7 @@ fn couplet_at<'a>(walk: &mut Walk<'a>, height: i32, none: Rows<'a>) -> Rows<'a>
 }
 
 // The line after a change, and room for another one.
+#[inline(always)]
 fn line_after(
     line: Vec<i32>,
     spare: Vec<i32>,
@@ -79,9 +82,9 @@ fn give_back(rooms: &mut Vec<Solid>, line_a: Vec<i32>, line_b: Vec<i32>) -> Resu
     Ok(())
 }
 
-/// The Boolean of two views of dimension 2, in the room of a solid that is done with. It takes further rooms from `rooms`
-/// and gives them back.
-pub fn combine_planes(
+// The Boolean of two views of dimension 2, as `combine_planes`.
+#[inline(always)]
+fn sweep_planes(
     alloc: Global,
     op: Op2,
     a: Rows<'_>,
@@ -115,4 +118,62 @@ pub fn combine_planes(
     }
     give_back(rooms, line_a, line_b)?;
     Ok(Solid::from_rows(2, out))
+}
+
+// The same view, of rows that are `width` wide. Where the compiler knows `width`, it knows from here on where a row stands.
+#[inline(always)]
+fn of_width<'a>(width: usize, a: Rows<'a>) -> Rows<'a>
+    requires width { a.width ≡ width }
+    requires skip { a.skip ≡ 0 }
+    ensures { vertices_of result ≡ vertices_of a.entry }
+{
+    Rows {
+        flat: a.flat,
+        width,
+        skip: 0,
+    }
+}
+
+// The Boolean of two views of dimension 2, as `combine_planes`, compiled apart for each operation.
+#[inline(always)]
+fn combine_by_op(
+    alloc: Global,
+    op: Op2,
+    a: Rows<'_>,
+    b: Rows<'_>,
+    room: Solid,
+    rooms: &mut Vec<Solid>,
+) -> Result<Solid, NoMemory>
+    requires left { (vertices_of a).dim ≡ 2 }
+    requires right { (vertices_of b).dim ≡ 2 }
+    ensures dim { IfOk result (λ s. s.dim ≡ 2) }
+    ensures rows { IfOk result (λ s. s.rows ≡ combined_rows (fills op) 2 (vertices_of a.entry).rows (vertices_of b.entry).rows) }
+{
+    match op {
+        Op2::Or => sweep_planes(alloc, Op2::Or, a, b, room, rooms),
+        Op2::And => sweep_planes(alloc, Op2::And, a, b, room, rooms),
+        Op2::Sub => sweep_planes(alloc, Op2::Sub, a, b, room, rooms),
+        Op2::Xor => sweep_planes(alloc, Op2::Xor, a, b, room, rooms),
+    }
+}
+
+/// The Boolean of two views of dimension 2, in the room of a solid that is done with. It takes further rooms from `rooms`
+/// and gives them back.
+pub fn combine_planes(
+    alloc: Global,
+    op: Op2,
+    a: Rows<'_>,
+    b: Rows<'_>,
+    room: Solid,
+    rooms: &mut Vec<Solid>,
+) -> Result<Solid, NoMemory>
+    requires left { (vertices_of a).dim ≡ 2 }
+    requires right { (vertices_of b).dim ≡ 2 }
+    ensures dim { IfOk result (λ s. s.dim ≡ 2) }
+    ensures rows { IfOk result (λ s. s.rows ≡ combined_rows (fills op) 2 (vertices_of a.entry).rows (vertices_of b.entry).rows) }
+{
+    if a.skip == 0 && b.skip == 0 {
+        return combine_by_op(alloc, op, of_width(2, a), of_width(2, b), room, rooms);
+    }
+    sweep_planes(alloc, op, a, b, room, rooms)
 }

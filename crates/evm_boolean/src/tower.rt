@@ -1,17 +1,15 @@
 // Numbers that are built from couplets, from the lowest up.
 ghost use Rattle.std.specs.Prelude.{◌≡◌, ◌%◌, ◌<◌, ◌≤◌, [], ◌∷◌, ◌++◌, length, OnOk};
-ghost use Rattle.evm_rows.specs.Rows.{rows_of, flat_of, xor_rows};
-ghost use Rattle.evm_rows.specs.View.{vertices_of};
+ghost use Rattle.evm_rows.specs.Rows.{rows_of, flat_of};
 ghost use Rattle.evm_sections.specs.Couplets.{mark};
 ghost use Rattle.evm_boolean.specs.Tower.{under};
 
-use evm_rows::{Rows, split_row};
+use evm_rows::split_row;
 use std::alloc::AllocError;
-use std::cmp::Ordering;
 
-// Appends a row with the height before it.
+/// Appends a row with the height before it.
 #[inline(always)]
-fn append_row(out: &mut Vec<i32>, height: i32, row: &[i32]) -> Result<(), AllocError>
+pub fn append_row(out: &mut Vec<i32>, height: i32, row: &[i32]) -> Result<(), AllocError>
     ensures { OnOk result (out.new.items ≡ (out.old.items ++ height ∷ []) ++ row.now) }
 {
     out.push(height)?;
@@ -19,8 +17,9 @@ fn append_row(out: &mut Vec<i32>, height: i32, row: &[i32]) -> Result<(), AllocE
     Ok(())
 }
 
-// Appends each row with the height before it.
-fn append_under(
+/// Appends each row with the height before it.
+#[inline(always)]
+pub fn append_under(
     out: &mut Vec<i32>,
     height: i32,
     flat: &[i32],
@@ -38,41 +37,6 @@ fn append_under(
         append_row(out, height, row)?;
         left = rest;
     }
-    Ok(())
-}
-
-/// Appends the rows at which two sections differ, each with the height before it.
-pub fn append_couplet(
-    out: &mut Vec<i32>,
-    height: i32,
-    below: Rows<'_>,
-    above: Rows<'_>,
-) -> Result<(), AllocError>
-    requires { (vertices_of below).dim ≡ (vertices_of above).dim }
-    ensures { OnOk result (out.new.items ≡ out.old.items ++ flat_of (under height (xor_rows (vertices_of below.entry).dim (vertices_of below.entry).rows (vertices_of above.entry).rows))) }
-{
-    let mut left = below.flat;
-    let mut right = above.flat;
-    while left.len() != 0 && right.len() != 0 {
-        let (x, after_x) = split_row(left, below.width, below.skip);
-        let (y, after_y) = split_row(right, above.width, above.skip);
-        match x.cmp(y) {
-            Ordering::Less => {
-                append_row(out, height, x)?;
-                left = after_x;
-            }
-            Ordering::Equal => {
-                left = after_x;
-                right = after_y;
-            }
-            Ordering::Greater => {
-                append_row(out, height, y)?;
-                right = after_y;
-            }
-        }
-    }
-    append_under(out, height, left, below.width, below.skip)?;
-    append_under(out, height, right, above.width, above.skip)?;
     Ok(())
 }
 

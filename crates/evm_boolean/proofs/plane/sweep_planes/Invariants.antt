@@ -2,7 +2,7 @@ use Rattle.std.proofs.Common.{◌≡◌, ◌+◌, ◌++◌, length}
 use Rattle.evm_rows.specs.Rows.{AreRows, rows_of, flat_of, combined_rows}
 use Rattle.evm_boolean.specs.Tower.{fills}
 use Rattle.evm_boolean.proofs.TowerSteps.{tower, cuts_of}
-use Rattle.evm_boolean.proofs.plane.combine_planes.Given as goal
+use Rattle.evm_boolean.proofs.plane.sweep_planes.Given as goal
 
 abbrev pub invariant-loop-height : goal.invariant-loop-height
 invariant-loop-height l = record {

@@ -10,7 +10,7 @@ use Rattle.evm_boolean.proofs.Cuts.{cuts-fall}
 use Rattle.evm_boolean.proofs.TowerCells.{tower_is_at, fills-none, op-both_none, section-here}
 use Rattle.evm_boolean.proofs.TowerSteps.{tower_more, tower_done}
 use Rattle.evm_boolean.proofs.Answer.{answer_rows, answer_is}
-use Rattle.evm_boolean.proofs.plane.combine_planes.Goals as goal
+use Rattle.evm_boolean.proofs.plane.sweep_planes.Goals as goal
 
 pub loop-height-init : goal.loop-height-init
 loop-height-init c =

@@ -1,13 +1,11 @@
-use Rattle.std.proofs.Common.{◌++◌, ◌-◌, ap, ◌∙◌, arith}
-use Rattle.evm_cells.specs.Vertices.{IsVertexList}
+use Rattle.std.proofs.Common.{◌++◌, ap, ◌∙◌, arith}
 use Rattle.evm_rows.specs.Rows.{rows_of, flat_of}
 use Rattle.evm_rows.proofs.RowsLaws.{rows_of-none}
-use Rattle.evm_rows.proofs.Bridge.{merge_is}
 use Rattle.evm_sections.proofs.Bits.{same32}
 use Rattle.evm_boolean.specs.Tower.{under}
 use Rattle.evm_boolean.proofs.TowerLaws.{under_less, under_equal, under_greater, under_left, under_right}
-use Rattle.evm_boolean.proofs.tower.append_couplet.Goals as goal
-use Rattle.evm_boolean.proofs.tower.append_couplet.Goals.{then-loop-left-test+else-right-ne0, else-loop-left-test}
+use Rattle.evm_boolean.proofs.merge.append_merged_under.Goals as goal
+use Rattle.evm_boolean.proofs.merge.append_merged_under.Goals.{then-loop-left-test+else-right-ne0, else-loop-left-test}
 
 pub loop-left-preserved-in-Less : goal.loop-left-preserved-in-Less
 loop-left-preserved-in-Less c = record {
@@ -35,16 +33,11 @@ loop-left-preserved c = record {
 
 pub returns : goal.returns
 returns c =
-    let a = c.args.below in
-    let b = c.args.above in
-    let w : IsVertexList (a.width - a.skip) (rows_of b.flat.now b.width b.skip) = rw c.requires b.vertices in
-    let is = merge_is (a.width - a.skip) (rows_of a.flat.now a.width a.skip) (rows_of b.flat.now b.width b.skip) a.vertices w in
     (rw (same32 c.args.height c.ranges.height) at c.in_ok-append_under-2.ensures)
-    ∙ ap (λ o. o ++ flat_of (under c.args.height (rows_of c.loop-left.right.now c.args.above.width c.args.above.skip))) (rw (same32 c.args.height c.ranges.height) at c.in_ok-append_under.ensures)
+    ∙ ap (λ o. o ++ flat_of (under c.args.height (rows_of c.loop-left.right.now c.args.b.width c.args.b.skip))) (rw (same32 c.args.height c.ranges.height) at c.in_ok-append_under.ensures)
     ∙ elim c.loop-left-test.branch [
       | then-loop-left-test+else-right-ne0 w ↦
           under_right _ _ _ _ _ (rows_of-none c.loop-left.right.now _ _ (omega arith)) (rw (same32 c.args.height c.ranges.height) at c.loop-left.invariant.so_far)
       | else-loop-left-test w ↦
           under_left _ _ _ _ _ (rows_of-none c.loop-left.left.now _ _ (omega arith)) (rw (same32 c.args.height c.ranges.height) at c.loop-left.invariant.so_far)
     ]
-    ∙ ap (λ rs. c.args.out.now.items ++ flat_of (under c.args.height rs)) is
