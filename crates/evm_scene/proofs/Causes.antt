@@ -1,17 +1,13 @@
 -- What refuses a definition, by the table, and what one leaves that is made.
-use Rattle.std.proofs.Common.{◌≡◌, ℕ, ◌*◌, ◌==◌, Bool, true, false, not, cond, ◌&&◌, ◌||◌, List, [], ◌∷◌, ◌++◌, length, Option, None, Some, Result, Ok, Err, ℤ, pos, refl, sym, ap, subst, ◌∙◌, true≢false, is_some, bytes_eq}
-use Rattle.std.specs.Prelude.{nat_abs}
-use Rattle.std.specs.List.{list_any}
-use Rattle.std.proofs.lemmas.Bool.Decides.{Decides-eqb}
-use Rattle.evm_cells.proofs.Xor.{and_first, and_second}
+use Rattle.std.proofs.Common.{◌≡◌, ℕ, ◌==◌, Bool, true, false, not, cond, ◌&&◌, ◌||◌, List, [], ◌∷◌, ◌++◌, Option, None, Some, Err, pos, refl, sym, ap, subst, ◌∙◌, true≢false, is_some, bytes_eq}
 use Rattle.evm_rows.specs.Rows.{Vertices}
 use Rattle.evm_script.specs.declared.formula.Formula.{Formula}
 use Rattle.evm_model.specs.Figures.{Figure}
 use Rattle.evm_model.specs.Orders.{is_among}
-use Rattle.evm_model.specs.Scene.{Scene, Entry, What, Given, Made, stands, is_input, is_dim, dim_of, operands, formula_dim, formula_fits, formula_in_range, formula_stays, all_stay, value, with_entry, with_new, with_formula, reaches, IsWell}
+use Rattle.evm_model.specs.Scene.{Scene, Entry, Made, stands, is_input, is_dim, dim_of, operands, formula_dim, formula_fits, formula_in_range, formula_stays, all_stay, value, with_entry, with_new, with_formula, reaches, IsWell}
 use Rattle.evm_model.specs.Edits as model
 use Rattle.evm_model.specs.Edits.{lacks_operand, closes_cycle, misses_dim}
-use Rattle.evm_model.proofs.Names.{by_name, by_test, not_false, name_itself, name_sym, different_names, not_both, neither, or-false, any_among, passes_none, among_here}
+use Rattle.evm_model.proofs.Names.{not_false, name_sym, different_names, or-false, any_among, passes_none}
 use Rattle.evm_model.proofs.Stays.{unread_unreached}
 use Rattle.evm_model.proofs.Levels.{formula_stays_same}
 use Rattle.evm_model.proofs.WellEdits.{unread, stay_new}
@@ -19,10 +15,10 @@ use Rattle.evm_model.proofs.Refusals.{formula_dim_fits}
 use Rattle.evm_scene.specs.declared.edit.Refusal.{Refusal}
 use Rattle.evm_scene.specs.declared.edit.Refusal.TheVariants.{Name, Taken, Kind, Used, Cycle, Dim, Range, NoMemory}
 use Rattle.evm_scene.specs.declared.node.Node.{Node}
-use Rattle.evm_scene.specs.Tables.{Table, figure_of, node_at, kept, dim_at, is_made, FormulaSized, NodeSized, entry_view, entries_of, scene_of}
+use Rattle.evm_scene.specs.Tables.{Table, node_at, kept, dim_at, FormulaSized, NodeSized, entry_view, entries_of, scene_of}
 use Rattle.evm_scene.specs.Applied.{Applies}
 use Rattle.evm_scene.specs.Definitions.{IsMade}
-use Rattle.evm_scene.proofs.Views.{stands_at, dim_is, input_at, is_given}
+use Rattle.evm_scene.proofs.Views.{stands_at, input_at, is_given}
 use Rattle.evm_scene.proofs.FormulaLaws.{formula_sized}
 use Rattle.evm_scene.proofs.Unread.{absent_unread, new_changes_none}
 

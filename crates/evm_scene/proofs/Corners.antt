@@ -1,11 +1,11 @@
 -- The box that numbers state.
-use Rattle.std.proofs.Common.{◌≡◌, ℕ, ◌+◌, ◌*◌, ◌≤◌, ◌==◌, Bool, true, false, ◌&&◌, List, [], ◌∷◌, ◌++◌, take, drop, length, ℤ, pos, neg_ℤ, int_le, int_lt, Result, Ok, Err, IsErr, IsErrOf, IsErrAnd, refl, sym, ap, ◌∙◌, subst, arith}
+use Rattle.std.proofs.Common.{◌≡◌, ℕ, ◌*◌, ◌==◌, Bool, true, false, ◌&&◌, List, take, drop, length, ℤ, pos, neg_ℤ, int_lt, refl, sym, ap, ◌∙◌, subst, arith}
 use Rattle.std.specs.List.{list_all}
 use Rattle.std.proofs.lemmas.Bool.{false≢true}
 use Rattle.std.proofs.lemmas.List.{take-append-drop, length-take-le}
 use Rattle.std.proofs.lemmas.List.Folds.{list_all-append}
 use Rattle.evm_cells.specs.Places.{each}
-use Rattle.evm_cells.specs.Limits.{limit, is_cell_coord, is_point_coord, is_cell, is_point}
+use Rattle.evm_cells.specs.Limits.{limit, is_point_coord, is_point}
 use Rattle.evm_cells.specs.Vertices.{cells}
 use Rattle.evm_cells.specs.Boxes.{is_box, box_cells}
 use Rattle.evm_cells.proofs.Xor.{and_first, and_second, and_both}

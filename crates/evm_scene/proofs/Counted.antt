@@ -1,19 +1,19 @@
 -- How many names changes change.
-use Rattle.std.proofs.Common.{◌≡◌, ℕ, Bool, true, false, cond, not, ◌&&◌, ◌||◌, List, [], ◌∷◌, Option, None, Some, refl, sym, ap, subst, ◌∙◌, true≢false, is_some, length, map, bytes_eq, ℤ}
-use Rattle.std.specs.List.{list_any, IsDistinct}
-use Rattle.std.specs.Map.{lookup, keys_of}
+use Rattle.std.proofs.Common.{◌≡◌, ℕ, Bool, true, false, cond, not, ◌&&◌, ◌||◌, List, [], ◌∷◌, Option, None, Some, refl, sym, ap, subst, ◌∙◌, true≢false, is_some, length, bytes_eq, ℤ}
+use Rattle.std.specs.List.{IsDistinct}
+use Rattle.std.specs.Map.{keys_of}
 use Rattle.std.proofs.lemmas.Map.Entries.{length-keys_of}
 use Rattle.evm_cells.specs.Vertices.{cells}
-use Rattle.evm_model.specs.Figures.{Figure, xor_of, same_figure}
+use Rattle.evm_model.specs.Figures.{Figure, same_figure}
 use Rattle.evm_model.specs.Orders.{is_among}
-use Rattle.evm_model.specs.Scene.{Scene, stands, value, names_differ}
+use Rattle.evm_model.specs.Scene.{stands, value}
 use Rattle.evm_model.specs.Edits.{changed_names}
 use Rattle.evm_model.proofs.Names.{same_name, name_itself, name_sym}
 use Rattle.evm_model.proofs.Counts.{differ_distinct, changed_count}
 use Rattle.evm_model.proofs.FigureLaws.{same_itself}
 use Rattle.evm_scene.specs.declared.node.Node.{Node}
 use Rattle.evm_scene.specs.declared.node.Change.{Change}
-use Rattle.evm_scene.specs.Tables.{Table, figure_of, node_at, node_figure, is_made, kept, entries_of, scene_of}
+use Rattle.evm_scene.specs.Tables.{Table, figure_of, node_at, node_figure, kept, scene_of}
 use Rattle.evm_scene.specs.Orders.{IsKept}
 use Rattle.evm_scene.specs.Changes.{Pending, change_at, after_of, moved, IsChange, MovesNode, IsCarried, IsCount}
 use Rattle.evm_scene.proofs.Views.{stands_at, kept_is_value}

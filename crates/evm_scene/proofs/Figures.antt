@@ -1,6 +1,5 @@
 -- The figures of solids, and the laws of their exclusive or.
-use Rattle.std.proofs.Common.{◌≡◌, ℕ, Bool, true, false, not, ◌&&◌, ◌||◌, List, [], ◌∷◌, ℤ, length, IsTrue, ◌↔◌, refl, sym, ap, ◌∙◌, subst, arith, Option, None, Some}
-use Rattle.std.proofs.lemmas.Bool.{false≢true}
+use Rattle.std.proofs.Common.{◌≡◌, ℕ, false, List, [], ◌∷◌, ℤ, length, refl, sym, ap, ◌∙◌, subst, arith, Option, None, Some}
 use Rattle.evm_cells.specs.Places.{has}
 use Rattle.evm_cells.specs.Limits.{IsCellSet}
 use Rattle.evm_cells.specs.Booleans.{combine, or_cells, and_cells, sub_cells, xor, xor_cells}
@@ -10,7 +9,7 @@ use Rattle.evm_cells.proofs.Combine.{cell_set-xor, has-xor_cells}
 use Rattle.evm_cells.proofs.Core.{evm-cells}
 use Rattle.evm_cells.proofs.Layers.{evm-empty, cells-empty}
 use Rattle.evm_cells.proofs.Order.{refuted}
-use Rattle.evm_rows.specs.Rows.{Vertices, IsSolid, cells_of}
+use Rattle.evm_rows.specs.Rows.{Vertices, cells_of}
 use Rattle.evm_boolean.specs.declared.boolean.Op2.{Op2}
 use Rattle.evm_boolean.specs.declared.boolean.Op2.TheVariants.{Or, And, Sub, Xor}
 use Rattle.evm_boolean.specs.Tower.{fills}
@@ -18,11 +17,11 @@ use Rattle.evm_delta.specs.Changes.{op_cells, value_before, value_after, change_
 use Rattle.evm_delta.proofs.Deltas.{carries_over}
 use Rattle.evm_delta.proofs.Tables.{xor_none}
 use Rattle.evm_model.specs.Figures.{Figure, nothing, or_of, and_of, sub_of, xor_of, same_figure}
-use Rattle.evm_model.proofs.FigureLaws.{same_itself, same_equal}
+use Rattle.evm_model.proofs.FigureLaws.{same_equal}
 use Rattle.evm_scene.specs.declared.node.Node.{Node}
 use Rattle.evm_scene.specs.declared.node.Change.{Change}
 use Rattle.evm_scene.specs.Tables.{figure_of, node_figure}
-use Rattle.evm_scene.specs.Changes.{IsChange, IsStill, after_of}
+use Rattle.evm_scene.specs.Changes.{IsChange, IsStill}
 use Rattle.evm_scene.specs.Combined.{combine_of}
 
 pub figure_with : (s : Vertices) (f : Figure) → s.dim ≡ f.dim → cells s.dim s.rows ≡ f.cells → figure_of s ≡ f

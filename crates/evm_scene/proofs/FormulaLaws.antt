@@ -1,5 +1,5 @@
 -- Dimensions and numbers of formulas, as the table and as the scene say them, and what formulas do.
-use Rattle.std.proofs.Common.{◌≡◌, ℕ, ◌+◌, ◌-◌, ◌*◌, ◌<◌, ◌≤◌, ◌==◌, Bool, true, false, not, ◌&&◌, ◌||◌, List, [], ◌∷◌, take, drop, length, ℤ, pos, negsuc, neg_ℤ, ◌≤ℤ◌, ◌<ℤ◌, int_le, int_lt, refl, sym, ap, ◌∙◌, subst, true≢false, bytes_eq, Option, None, Some, is_some, arith}
+use Rattle.std.proofs.Common.{◌≡◌, ℕ, ◌+◌, ◌-◌, ◌*◌, ◌<◌, ◌≤◌, ◌==◌, Bool, true, false, not, ◌&&◌, ◌||◌, List, [], ◌∷◌, take, drop, length, ℤ, pos, negsuc, neg_ℤ, ◌≤ℤ◌, int_le, int_lt, refl, sym, ap, ◌∙◌, subst, true≢false, bytes_eq, Option, None, Some, is_some, arith}
 use Rattle.std.specs.Prelude.{nat_abs}
 use Rattle.std.proofs.lemmas.Int.{ints as int_facts}
 use Rattle.std.proofs.lemmas.Bool.Decides.{Decides-eqb}
@@ -9,25 +9,22 @@ use Rattle.evm_cells.specs.Limits.{limit, is_cell_coord, is_point_coord}
 use Rattle.evm_cells.specs.Shapes.{is_shift}
 use Rattle.evm_cells.specs.Boxes.{is_box}
 use Rattle.evm_cells.proofs.Xor.{and_first, and_second, and_both}
-use Rattle.evm_cells.proofs.Coords.{le_yes, le_is, lt_is}
+use Rattle.evm_cells.proofs.Coords.{le_is, lt_is}
 use Rattle.evm_cells.proofs.Order.{refuted}
-use Rattle.evm_delta.specs.declared.shapes.Op1.{Op1}
 use Rattle.evm_delta.specs.declared.shapes.Op1.TheVariants as shapes
 use Rattle.evm_delta.specs.Shapes.{Fits, op1_dim}
-use Rattle.evm_boolean.specs.declared.boolean.Op2.TheVariants as ops
 use Rattle.evm_script.specs.declared.formula.Formula.{Formula}
 use Rattle.evm_script.specs.declared.formula.Formula.TheVariants.{Or, And, Sub, Xor, Box, Shift, Mirror, Swap, Clip, Slice, Proj, Lift}
-use Rattle.evm_model.specs.Figures.{Figure, box_at, box_fits, low_of, high_of}
+use Rattle.evm_model.specs.Figures.{box_fits, low_of, high_of}
 use Rattle.evm_model.specs.Orders.{is_among}
-use Rattle.evm_model.specs.Scene.{Scene, Made, dim_of, is_dim, is_axis, is_range, operands, formula_value, formula_stays, formula_dim, formula_fits, formula_in_range, what_is_sound}
+use Rattle.evm_model.specs.Scene.{Scene, Made, dim_of, is_dim, is_axis, is_range, operands, formula_dim, formula_fits, formula_in_range, what_is_sound}
 use Rattle.evm_model.proofs.Names.{by_test, not_true, same_name, among_here, among_later}
 use Rattle.evm_model.proofs.WellScenes.{sound_made}
 use Rattle.evm_scene.specs.declared.operations.Operation.{Operation}
 use Rattle.evm_scene.specs.declared.operations.Operation.TheVariants as does
 use Rattle.evm_scene.specs.declared.node.Node.{Node}
-use Rattle.evm_scene.specs.Tables.{Table, node_at, node_dim, NodeSized, MadeSized, dim_at, operand_dim, FormulaStated, FormulaSized, scene_of}
-use Rattle.evm_scene.specs.Combined.{combine_of}
-use Rattle.evm_scene.specs.Operations.{operation_of, shape_of, shape_stays}
+use Rattle.evm_scene.specs.Tables.{Table, node_at, node_dim, NodeSized, MadeSized, dim_at, operand_dim, FormulaSized, scene_of}
+use Rattle.evm_scene.specs.Operations.{operation_of}
 use Rattle.evm_scene.proofs.Views.{dim_is}
 use Rattle.evm_scene.proofs.Stated.{dim_low, dim_high}
 

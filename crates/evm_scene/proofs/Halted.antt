@@ -2,14 +2,13 @@
 use Rattle.std.proofs.Common.{◌≡◌, ℕ, Bool, true, false, cond, List, [], ◌∷◌, Option, None, Some, refl, sym, ap, subst, ◌∙◌, is_some, bytes_eq}
 use Rattle.std.specs.Prelude.{option_map}
 use Rattle.std.proofs.lemmas.Bool.{false≢true}
-use Rattle.evm_cells.specs.Limits.{IsCellSet}
 use Rattle.evm_cells.specs.Vertices.{cells}
 use Rattle.evm_cells.proofs.Universe.{cell_set-cells}
 use Rattle.evm_rows.specs.Rows.{Vertices}
 use Rattle.evm_script.specs.declared.formula.Formula.{Formula}
 use Rattle.evm_model.specs.Figures.{Figure}
 use Rattle.evm_model.specs.Orders.{is_among}
-use Rattle.evm_model.specs.Scene.{Scene, Entry, What, Given, Made, entry_of, stands, entry_operands, operands_of, entry_value, value, what_stays, all_stay, with_figure, dim_of, IsWell}
+use Rattle.evm_model.specs.Scene.{Scene, Entry, Given, entry_of, entry_operands, operands_of, entry_value, value, what_stays, all_stay, with_figure, dim_of, IsWell}
 use Rattle.evm_model.proofs.Names.{by_name, by_test, among_none, name_itself}
 use Rattle.evm_model.proofs.Lookups.{found_passes, none_stands, with_own, with_other}
 use Rattle.evm_model.proofs.Levels.{along}
@@ -17,7 +16,7 @@ use Rattle.evm_model.proofs.WellScenes.{well_value}
 use Rattle.evm_model.proofs.WellEdits.{well_figure}
 use Rattle.evm_scene.specs.declared.node.Node.{Node}
 use Rattle.evm_scene.specs.declared.node.Change.{Change}
-use Rattle.evm_scene.specs.Tables.{Table, figure_of, node_at, reads_at, node_value, made_stays, node_stays, node_figure, node_dim, dim_at, kept, NodeSized, what_of, entry_view, entries_of, scene_of}
+use Rattle.evm_scene.specs.Tables.{Table, figure_of, node_at, reads_at, made_stays, node_stays, node_figure, node_dim, dim_at, kept, NodeSized, what_of, entry_view, entries_of, scene_of}
 use Rattle.evm_scene.specs.Orders.{IsKept}
 use Rattle.evm_scene.specs.Changes.{Pending, change_at, after_of, moved, IsChange, IsHalted}
 use Rattle.evm_scene.proofs.Views.{entry_at, dim_is, operands_at, stands_at, value_at, value_same, stays_same}

@@ -1,19 +1,18 @@
 -- A name has another formula, and all changes that follow are in place.
 use Rattle.std.proofs.Common.{◌≡◌, ℕ, Bool, true, false, cond, ◌||◌, List, [], ◌∷◌, ◌++◌, Option, None, Some, refl, sym, ap, subst, ◌∙◌, true≢false, is_some, length, bytes_eq}
 use Rattle.std.specs.Prelude.{option_map}
-use Rattle.std.specs.List.{list_any, IsDistinct}
+use Rattle.std.specs.List.{IsDistinct}
 use Rattle.std.specs.Map.{keys_of}
 use Rattle.evm_script.specs.declared.formula.Formula.{Formula}
-use Rattle.evm_model.specs.Figures.{Figure}
 use Rattle.evm_model.specs.Orders.{is_among}
-use Rattle.evm_model.specs.Scene.{Made, Entry, operands, formula_value, formula_stays, with_entry, reaches}
+use Rattle.evm_model.specs.Scene.{Made, operands, formula_value, formula_stays, with_entry, reaches}
 use Rattle.evm_model.specs.Edits.{closes_cycle, changed_names}
 use Rattle.evm_model.proofs.Names.{same_name, name_itself, name_sym, any_among}
 use Rattle.evm_scene.specs.declared.node.Node.{Node}
 use Rattle.evm_scene.specs.declared.node.Change.{Change}
-use Rattle.evm_scene.specs.Tables.{Table, figure_of, node_at, reads_at, kept, node_dim, dim_at, is_made, FormulaSized, put_made, with_made, entries_of, scene_of}
+use Rattle.evm_scene.specs.Tables.{Table, figure_of, node_at, reads_at, kept, node_dim, dim_at, is_made, FormulaSized, with_made, entries_of, scene_of}
 use Rattle.evm_scene.specs.Orders.{IsKept, meets, Parted}
-use Rattle.evm_scene.specs.Changes.{Pending, change_at, after_of, moved, moved_node, put_all, IsChange, IsCount, MovesNode, IsCarried, IsRedefined, IsInstalled}
+use Rattle.evm_scene.specs.Changes.{Pending, change_at, after_of, moved, moved_node, put_all, IsChange, IsCount, MovesNode, IsRedefined, IsInstalled}
 use Rattle.evm_scene.proofs.Puts.{node_put_all, length_put_all, moved_none}
 use Rattle.evm_scene.proofs.Mades.{node_made, length_made}
 use Rattle.evm_scene.proofs.Views.{view_put_all, view_put_formula, reached}

@@ -1,14 +1,12 @@
 -- What a table keeps once the changes are in place.
-use Rattle.std.proofs.Common.{◌≡◌, ℕ, ◌+◌, Bool, true, false, cond, ◌||◌, List, [], ◌∷◌, ◌++◌, Option, None, Some, refl, sym, ap, subst, ◌∙◌, true≢false, is_some, length, bytes_eq}
-use Rattle.evm_rows.specs.Rows.{Vertices}
+use Rattle.std.proofs.Common.{◌≡◌, ℕ, Bool, true, false, List, [], Option, None, Some, refl, sym, ap, subst, ◌∙◌, true≢false, is_some, length, bytes_eq}
 use Rattle.evm_script.specs.declared.formula.Formula.{Formula}
 use Rattle.evm_model.specs.Figures.{Figure}
-use Rattle.evm_model.specs.Orders.{is_among, AllSeen, Ordered}
 use Rattle.evm_model.specs.Scene.{formula_value}
 use Rattle.evm_model.proofs.Names.{same_name}
 use Rattle.evm_scene.specs.declared.node.Node.{Node}
 use Rattle.evm_scene.specs.declared.node.Change.{Change}
-use Rattle.evm_scene.specs.Tables.{Table, figure_of, node_at, node_reads, reads_at, made_value, node_value, made_stays, node_stays, node_figure, kept, node_dim, dim_at, MadeSized, NodeSized}
+use Rattle.evm_scene.specs.Tables.{Table, figure_of, node_at, node_reads, reads_at, made_value, node_value, made_stays, node_stays, node_figure, kept, node_dim, dim_at, NodeSized}
 use Rattle.evm_scene.specs.Orders.{IsKept}
 use Rattle.evm_scene.specs.Changes.{Pending, change_at, after_of, moved, moved_node, IsChange, IsCarried}
 use Rattle.evm_scene.proofs.Views.{value_same, stays_same, operand_stands, ordered_same, node_formula}

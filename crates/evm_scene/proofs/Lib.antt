@@ -20,6 +20,7 @@ pub mod Counted
 pub mod Corners
 pub mod Causes
 pub mod Planned
+pub mod OtherFigures
 pub mod ShapeValues
 pub mod Stated
 pub mod FormulaLaws

@@ -1,9 +1,9 @@
 -- A new name goes last, in the table and in the order.
 use Rattle.std.proofs.Common.{◌≡◌, ℕ, ◌+◌, Bool, true, false, cond, ◌||◌, List, [], ◌∷◌, ◌++◌, Option, None, Some, refl, sym, ap, subst, ◌∙◌, true≢false, is_some, length, length-append, bytes_eq, arith}
 use Rattle.evm_script.specs.declared.formula.Formula.{Formula}
-use Rattle.evm_model.specs.Orders.{is_among, AllSeen, Ordered}
+use Rattle.evm_model.specs.Orders.{is_among, Ordered}
 use Rattle.evm_model.specs.Scene.{operands}
-use Rattle.evm_model.proofs.Names.{same_name, name_itself, name_sym, or_right, or-false, among_here, among_later, among-append}
+use Rattle.evm_model.proofs.Names.{same_name, name_itself, name_sym, or_right, or-false, among-append}
 use Rattle.evm_model.proofs.Orders.{ordered_push}
 use Rattle.evm_scene.specs.declared.node.Node.{Node}
 use Rattle.evm_scene.specs.Tables.{Table, figure_of, node_at, made_reads, node_reads, reads_at, node_value, node_stays, node_figure, kept, node_dim, dim_at, FormulaSized, MadeSized, NodeSized}

@@ -1,13 +1,11 @@
 -- Edits that make a new name, by the table.
-use Rattle.std.proofs.Common.{◌≡◌, ℕ, Bool, true, false, not, cond, List, [], ◌∷◌, ◌++◌, Option, None, Some, ℤ, refl, sym, ap, subst, ◌∙◌, is_some, bytes_eq}
+use Rattle.std.proofs.Common.{◌≡◌, ℕ, Bool, true, false, not, List, [], ◌∷◌, ◌++◌, None, ℤ, ap, ◌∙◌, is_some}
 use Rattle.std.specs.Prelude.{nat_abs}
 use Rattle.evm_cells.specs.Vertices.{cells}
 use Rattle.evm_rows.specs.Rows.{Vertices}
-use Rattle.evm_script.specs.declared.formula.Formula.{Formula}
 use Rattle.evm_model.specs.Figures.{Figure, nothing}
-use Rattle.evm_model.specs.Scene.{Scene, Entry, What, Given, Made, stands, is_dim, with_new, IsWell}
+use Rattle.evm_model.specs.Scene.{Entry, Given, is_dim, with_new, IsWell}
 use Rattle.evm_model.specs.Edits as model
-use Rattle.evm_scene.specs.declared.node.Node.{Node}
 use Rattle.evm_scene.specs.Tables.{Table, figure_of, node_at, entry_view, entries_of, scene_of}
 use Rattle.evm_scene.proofs.Views.{stands_at}
 use Rattle.evm_scene.proofs.Unread.{new_changes_none}

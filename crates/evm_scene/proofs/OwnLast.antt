@@ -1,10 +1,8 @@
 -- An input gets another solid: its own change is put in place after the others.
-use Rattle.std.proofs.Common.{◌≡◌, ℕ, ◌+◌, Bool, true, false, cond, ◌||◌, List, [], ◌∷◌, ◌++◌, Option, None, Some, refl, sym, ap, subst, ◌∙◌, true≢false, is_some, length, bytes_eq}
+use Rattle.std.proofs.Common.{◌≡◌, ℕ, Bool, true, false, cond, List, [], ◌∷◌, Option, None, Some, refl, sym, ap, subst, ◌∙◌, true≢false, is_some, bytes_eq}
 use Rattle.std.specs.Prelude.{option_map}
 use Rattle.evm_cells.specs.Vertices.{cells}
-use Rattle.evm_model.specs.Figures.{Figure}
-use Rattle.evm_model.specs.Orders.{is_among}
-use Rattle.evm_model.specs.Scene.{Entry, Scene, Given, with_entry, with_figure}
+use Rattle.evm_model.specs.Scene.{Entry, Given, with_entry, with_figure}
 use Rattle.evm_model.proofs.Names.{same_name, name_itself, name_sym}
 use Rattle.evm_scene.specs.declared.node.Node.{Node}
 use Rattle.evm_scene.specs.declared.node.Change.{Change}

@@ -1,10 +1,9 @@
 -- An order is parted into the names that do not reach a name and, after them, that name and those that do.
-use Rattle.std.proofs.Common.{◌≡◌, ℕ, Bool, true, false, cond, ◌||◌, List, [], ◌∷◌, ◌++◌, refl, sym, ap, subst, ◌∙◌, true≢false, is_some, length, drop, get_or, ◌<◌, ◌+◌, length-append, bytes_eq, arith}
-use Rattle.std.specs.List.{list_any}
+use Rattle.std.proofs.Common.{◌≡◌, ℕ, Bool, true, false, ◌||◌, List, [], ◌∷◌, ◌++◌, refl, sym, ap, subst, ◌∙◌, true≢false, length, drop, get_or, ◌<◌, ◌+◌, length-append, bytes_eq, arith}
 use Rattle.evm_model.specs.Orders.{is_among, AllSeen, Ordered}
 use Rattle.evm_model.proofs.Names.{same_name, name_itself, or_left, or_right, or_none, or-false, neither, among_here, among_later, among-append, apart, apart_back}
 use Rattle.evm_model.proofs.Levels.{ordered_reads}
-use Rattle.evm_model.proofs.Orders.{ordered_seen, ordered_join, ordered_push}
+use Rattle.evm_model.proofs.Orders.{ordered_join, ordered_push}
 use Rattle.evm_scene.specs.Orders.{meets, Parted}
 use Rattle.evm_scene.proofs.Splits.{drop_item}
 

@@ -1,9 +1,9 @@
 -- What refuses an edit of an input by a box, by the table.
-use Rattle.std.proofs.Common.{◌≡◌, ℕ, ◌*◌, ◌==◌, Bool, true, false, not, List, [], ◌∷◌, ◌++◌, Option, None, Some, Result, Ok, Err, ℤ, length, refl, sym, ap, subst, ◌∙◌, is_some}
+use Rattle.std.proofs.Common.{◌≡◌, ℕ, ◌*◌, ◌==◌, Bool, true, false, not, List, [], ◌∷◌, ◌++◌, Option, None, Some, Ok, Err, ℤ, length, refl, sym, ap, subst, ◌∙◌, is_some}
 use Rattle.evm_delta.specs.declared.shapes.DeltaError.{DeltaError}
 use Rattle.evm_delta.specs.declared.shapes.DeltaError.TheVariants as errors
 use Rattle.evm_rows.specs.Rows.{Vertices}
-use Rattle.evm_model.specs.Figures.{Figure, box_fits, low_of, high_of, box_at, xor_of, or_of, sub_of}
+use Rattle.evm_model.specs.Figures.{Figure, box_fits, low_of, high_of, box_at}
 use Rattle.evm_model.specs.Scene.{Scene, stands, is_input, dim_of, value, with_figure, all_stay}
 use Rattle.evm_model.specs.Edits.{Edit, Code, Name, Kind, Dim, Range, first_cause, box_causes, value_causes, refusal, after, changed, changed_names, with_box}
 use Rattle.evm_scene.specs.declared.node.Node.{Node}
@@ -17,7 +17,7 @@ use Rattle.evm_scene.specs.Changes.{IsChange}
 use Rattle.evm_scene.specs.Applied.{Applies}
 use Rattle.evm_scene.specs.Refused.{of_delta_error}
 use Rattle.evm_scene.specs.Combined.{MakesBox}
-use Rattle.evm_scene.specs.BoxEdits.{figure_by, edit_by, IsRefused, IsPlanned}
+use Rattle.evm_scene.specs.InputEdits.{figure_by, edit_by, IsRefused, IsPlanned}
 use Rattle.evm_scene.proofs.Views.{stands_at, dim_is, input_at, is_given}
 
 box_refusal : (edit : BoxEdit) (scene : Scene) (name : List ℕ) (nums : List ℤ) → refusal scene (edit_by edit name nums) ≡ first_cause (box_causes scene name nums ++ value_causes (after scene (edit_by edit name nums)))
@@ -29,6 +29,21 @@ box_after : (edit : BoxEdit) (scene : Scene) (name : List ℕ) (nums : List ℤ)
 box_after Toggle scene name nums = refl
 box_after Add scene name nums = refl
 box_after Cut scene name nums = refl
+
+twice : (m : Bool) → not (not m) ≡ m
+twice true = refl
+twice false = refl
+
+-- what the scene says of a name with this node
+module _ (t : Table) (name : List ℕ) (n : Node) (at : node_at t name ≡ Some n) where
+  pub there : stands (scene_of t) name ≡ true
+  there = stands_at t name ∙ ap (λ (o : Option Node). is_some o) at
+
+  pub made_here : not (is_input (scene_of t) name) ≡ is_some n.formula
+  made_here = ap (λ (b : Bool). not b) (input_at t name ∙ ap is_given at) ∙ twice (is_some n.formula)
+
+  pub wide : dim_of (scene_of t) name ≡ n.dim
+  wide = dim_is t name ∙ ap node_dim at
 
 -- the causes at a node
 abbrev box_code : Bool → Bool → Bool → Scene → Option Code
@@ -45,25 +60,11 @@ module _ (edit : BoxEdit) (t : Table) (name : List ℕ) (nums : List ℤ) where
       (stands_at t name ∙ ap (λ (o : Option Node). is_some o) at)
 
   module _ (n : Node) (at : node_at t name ≡ Some n) where
-    there : stands (scene_of t) name ≡ true
-    there = stands_at t name ∙ ap (λ (o : Option Node). is_some o) at
-
-    given : is_input (scene_of t) name ≡ not (is_some n.formula)
-    given = input_at t name ∙ ap is_given at
-
-    wide : dim_of (scene_of t) name ≡ n.dim
-    wide = dim_is t name ∙ ap node_dim at
-
-    twice : (m : Bool) → not (not m) ≡ m
-    twice true = refl
-    twice false = refl
-
     code_at : (m d r : Bool) → is_some n.formula ≡ m → (length nums == 2 * n.dim) ≡ d → box_fits (low_of n.dim nums) (high_of n.dim nums) ≡ r → refusal (scene_of t) (edit_by edit name nums) ≡ box_code m d r left
     code_at m d r p q o =
         box_refusal edit (scene_of t) name nums
-        ∙ (λ i. first_cause ((not (there i), Name) ∷ (not (given i), Kind) ∷ (not (length nums == 2 * wide i), Dim) ∷ (not (box_fits (low_of (wide i) nums) (high_of (wide i) nums)), Range) ∷ value_causes left))
-        ∙ (λ i. first_cause ((twice (is_some n.formula) i, Kind) ∷ (not (q i), Dim) ∷ (not (o i), Range) ∷ value_causes left))
-        ∙ ap (λ (b : Bool). box_code b d r left) p
+        ∙ (λ i. first_cause ((not (there t name n at i), Name) ∷ (made_here t name n at i, Kind) ∷ (not (length nums == 2 * wide t name n at i), Dim) ∷ (not (box_fits (low_of (wide t name n at i) nums) (high_of (wide t name n at i) nums)), Range) ∷ value_causes left))
+        ∙ (λ i. box_code (p i) (q i) (o i) left)
 
     pub formula_refused : is_some n.formula ≡ true → refusal (scene_of t) (edit_by edit name nums) ≡ Some Kind
     formula_refused p = code_at true (length nums == 2 * n.dim) (box_fits (low_of n.dim nums) (high_of n.dim nums)) p refl refl
@@ -92,7 +93,7 @@ module _ (edit : BoxEdit) (t : Table) (name : List ℕ) (nums : List ℤ) where
           ap (with_figure (scene_of t) name)
           (e ∙ ap (figure_by edit (figure_of n.solid)) box.1
           ∙ ap (λ (f : Figure). figure_by edit f (box_at n.dim nums)) (ap node_figure (sym at) ∙ values name)
-          ∙ ap (λ (m : ℕ). figure_by edit (value (scene_of t) name) (box_at m nums)) (sym wide))
+          ∙ ap (λ (m : ℕ). figure_by edit (value (scene_of t) name) (box_at m nums)) (sym (wide t name n at)))
           ∙ sym (box_after edit (scene_of t) name nums);
     }
 

@@ -1,7 +1,7 @@
 -- Solids that are put in place.
-use Rattle.std.proofs.Common.{◌≡◌, ℕ, ◌+◌, Bool, true, false, cond, ◌||◌, List, [], ◌∷◌, ◌++◌, Option, None, Some, refl, sym, ap, subst, ◌∙◌, true≢false, is_some, length, arith, bytes_eq}
+use Rattle.std.proofs.Common.{◌≡◌, ℕ, Bool, true, false, cond, List, [], ◌∷◌, ◌++◌, Option, None, Some, refl, sym, ap, ◌∙◌, length, arith, bytes_eq}
 use Rattle.std.specs.Prelude.{option_map}
-use Rattle.std.specs.Map.{lookup, set_value}
+use Rattle.std.specs.Map.{set_value}
 use Rattle.std.proofs.lemmas.Bool.{both_ways}
 use Rattle.evm_rows.specs.Rows.{Vertices}
 use Rattle.evm_model.proofs.Names.{same_name, equal_names, different_names, name_sym}

@@ -1,10 +1,10 @@
 -- What a table keeps once a name has another formula.
-use Rattle.std.proofs.Common.{◌≡◌, ℕ, Bool, true, false, cond, ◌||◌, List, [], ◌∷◌, ◌++◌, Option, None, Some, refl, sym, ap, subst, ◌∙◌, true≢false, is_some, length, pos, bytes_eq}
+use Rattle.std.proofs.Common.{◌≡◌, ℕ, Bool, true, false, List, [], ◌++◌, Option, None, Some, refl, sym, ap, subst, ◌∙◌, true≢false, is_some, length, pos, bytes_eq}
 use Rattle.evm_script.specs.declared.formula.Formula.{Formula}
 use Rattle.evm_model.specs.Figures.{Figure}
-use Rattle.evm_model.specs.Orders.{is_among, AllSeen, Ordered}
+use Rattle.evm_model.specs.Orders.{is_among}
 use Rattle.evm_model.specs.Scene.{operands, formula_value, formula_stays, is_dim}
-use Rattle.evm_model.proofs.Names.{same_name, name_itself}
+use Rattle.evm_model.proofs.Names.{same_name}
 use Rattle.evm_model.proofs.Levels.{formula_same, formula_stays_same}
 use Rattle.evm_scene.specs.declared.node.Node.{Node}
 use Rattle.evm_scene.specs.declared.node.Change.{Change}

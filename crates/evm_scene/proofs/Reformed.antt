@@ -1,7 +1,7 @@
 -- A definition of a name that stands for a formula, made or refused.
-use Rattle.std.proofs.Common.{◌≡◌, ℕ, ◌==◌, Bool, true, false, not, cond, ◌&&◌, ◌||◌, List, [], ◌∷◌, ◌++◌, Option, None, Some, Result, Ok, Err, refl, sym, ap, subst, ◌∙◌, true≢false, is_some, bytes_eq}
+use Rattle.std.proofs.Common.{◌≡◌, ℕ, ◌==◌, Bool, true, false, not, cond, ◌&&◌, List, [], ◌++◌, Option, None, Some, Err, refl, sym, ap, subst, ◌∙◌, true≢false, is_some, bytes_eq}
 use Rattle.std.specs.Prelude.{option_map}
-use Rattle.std.specs.List.{list_any, IsDistinct}
+use Rattle.std.specs.List.{IsDistinct}
 use Rattle.std.specs.Map.{keys_of}
 use Rattle.evm_delta.specs.declared.shapes.DeltaError.{DeltaError}
 use Rattle.evm_delta.specs.declared.shapes.DeltaError.TheVariants as errors
@@ -9,7 +9,7 @@ use Rattle.evm_rows.specs.Rows.{Vertices}
 use Rattle.evm_script.specs.declared.formula.Formula.{Formula}
 use Rattle.evm_model.specs.Figures.{Figure}
 use Rattle.evm_model.specs.Orders.{is_among}
-use Rattle.evm_model.specs.Scene.{Scene, Entry, What, Made, stands, is_input, dim_of, operands, formula_dim, formula_fits, formula_in_range, formula_value, formula_stays, all_stay, names_differ, with_entry, with_new, with_formula}
+use Rattle.evm_model.specs.Scene.{Scene, Entry, Made, stands, is_input, dim_of, operands, formula_dim, formula_fits, formula_in_range, formula_value, formula_stays, all_stay, names_differ, with_entry, with_new, with_formula}
 use Rattle.evm_model.specs.Edits as model
 use Rattle.evm_model.specs.Edits.{lacks_operand, closes_cycle, misses_dim, changed_names}
 use Rattle.evm_model.proofs.Names.{by_name, or_right}

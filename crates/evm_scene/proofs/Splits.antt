@@ -1,7 +1,7 @@
 -- Orders that are cut at a name.
 use Rattle.std.proofs.Common.{◌≡◌, ℕ, ◌<◌, ◌+◌, Bool, true, false, ◌||◌, List, [], ◌∷◌, ◌++◌, refl, sym, ap, subst, ◌∙◌, true≢false, is_some, length, drop, get_or, drop-cons, add-one, bytes_eq}
-use Rattle.evm_model.specs.Orders.{is_among, AllSeen, Ordered}
-use Rattle.evm_model.proofs.Names.{or_left, or_right, or_none, or-false, among-append}
+use Rattle.evm_model.specs.Orders.{is_among, Ordered}
+use Rattle.evm_model.proofs.Names.{or_none, or-false, among-append}
 use Rattle.evm_model.proofs.Orders.{ordered_seen}
 use Rattle.evm_scene.specs.Tables.{Table, node_at, reads_at}
 use Rattle.evm_scene.specs.Orders.{IsKept}

@@ -1,11 +1,7 @@
 -- The numbers that formulas state, and the dimensions that they ask for.
-use Rattle.std.proofs.Common.{◌≡◌, ℕ, ◌+◌, ◌-◌, ◌*◌, ◌<◌, ◌≤◌, ◌==◌, Bool, true, false, not, ◌&&◌, List, [], ◌∷◌, length, Option, None, Some, is_some, true≢false, lit≤, ℤ, pos, neg_ℤ, ◌≤ℤ◌, int_le, int_lt, refl, sym, ap, ◌∙◌, subst, arith}
-use Rattle.std.specs.Prelude.{nat_abs}
-use Rattle.std.specs.List.{list_all}
+use Rattle.std.proofs.Common.{◌≡◌, ℕ, ◌≤◌, true, List, Option, None, Some, is_some, true≢false, lit≤, ℤ, pos, neg_ℤ, int_le, int_lt, sym, arith}
 use Rattle.std.proofs.lemmas.Int.{ints as int_facts}
 use Rattle.evm_cells.specs.Limits.{limit, is_cell_coord, is_point_coord}
-use Rattle.evm_cells.specs.Shapes.{is_shift}
-use Rattle.evm_cells.specs.Boxes.{is_box}
 use Rattle.evm_model.specs.Scene.{is_dim}
 use Rattle.evm_scene.specs.declared.node.Node.{Node}
 use Rattle.evm_scene.specs.Tables.{node_dim, NodeSized}

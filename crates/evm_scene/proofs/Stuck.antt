@@ -1,21 +1,20 @@
 -- Another formula of a name that stands: where the scene that it would leave moves a cell out of the limits.
-use Rattle.std.proofs.Common.{◌≡◌, ℕ, ◌==◌, Bool, true, false, cond, ◌&&◌, ◌||◌, List, [], ◌∷◌, Option, None, Some, refl, sym, ap, subst, ◌∙◌, is_some, bytes_eq}
+use Rattle.std.proofs.Common.{◌≡◌, ℕ, Bool, true, false, cond, ◌&&◌, ◌||◌, List, [], ◌∷◌, Option, None, Some, refl, sym, ap, subst, ◌∙◌, is_some, bytes_eq}
 use Rattle.std.proofs.lemmas.Bool.{false≢true}
 use Rattle.evm_script.specs.declared.formula.Formula.{Formula}
-use Rattle.evm_model.specs.Figures.{Figure}
 use Rattle.evm_model.specs.Orders.{is_among}
-use Rattle.evm_model.specs.Scene.{Scene, Entry, What, Made, entry_of, stands, operands, dim_of, formula_dim, formula_fits, formula_in_range, formula_value, formula_stays, entry_value, value, reaches, all_stay, with_entry, with_new, with_formula, IsWell}
+use Rattle.evm_model.specs.Scene.{Scene, Entry, Made, entry_of, stands, operands, dim_of, formula_dim, formula_fits, formula_in_range, formula_value, formula_stays, entry_value, value, reaches, all_stay, with_entry, with_new, with_formula, IsWell}
 use Rattle.evm_model.specs.Edits.{closes_cycle}
 use Rattle.evm_model.proofs.Names.{by_test, name_itself, or_none, passes_none}
 use Rattle.evm_model.proofs.Lookups.{with_own}
 use Rattle.evm_model.proofs.Levels.{formula_same, formula_stays_same}
-use Rattle.evm_model.proofs.Stays.{is_before, before_both, at_formula, value_stays}
+use Rattle.evm_model.proofs.Stays.{before_both, at_formula, value_stays}
 use Rattle.evm_model.proofs.WellScenes.{well_value, sound_made}
 use Rattle.evm_model.proofs.WellEdits.{well_formula}
 use Rattle.evm_scene.specs.declared.node.Change.{Change}
 use Rattle.evm_scene.specs.Tables.{Table, node_at, kept, entries_of, scene_of}
 use Rattle.evm_scene.specs.Orders.{IsKept}
-use Rattle.evm_scene.specs.Changes.{change_at, after_of, moved, IsStuck}
+use Rattle.evm_scene.specs.Changes.{after_of, moved, IsStuck}
 use Rattle.evm_scene.proofs.Views.{stands_at, kept_is_value}
 use Rattle.evm_scene.proofs.Halted.{entry_stays, all_at, never_well}
 

@@ -1,17 +1,16 @@
 -- A name that no formula reads is taken out.
-use Rattle.std.proofs.Common.{◌≡◌, ℕ, ◌+◌, Bool, true, false, cond, not, ◌&&◌, ◌||◌, List, [], ◌∷◌, ◌++◌, length, filter, Option, None, Some, refl, sym, ap, subst, ◌∙◌, true≢false, is_some, bytes_eq, arith}
-use Rattle.std.specs.List.{list_any}
+use Rattle.std.proofs.Common.{◌≡◌, ℕ, ◌+◌, Bool, true, false, cond, not, ◌&&◌, ◌||◌, List, [], ◌∷◌, length, filter, Option, None, refl, sym, ap, subst, ◌∙◌, true≢false, is_some, bytes_eq, arith}
 use Rattle.std.specs.Map.{remove_entry}
-use Rattle.evm_model.specs.Orders.{is_among, AllSeen, Ordered}
-use Rattle.evm_model.specs.Scene.{Scene, stands, is_read, operands_of, without_entry, without_name, IsWell}
+use Rattle.evm_model.specs.Orders.{is_among, Ordered}
+use Rattle.evm_model.specs.Scene.{is_read, without_entry, without_name, IsWell}
 use Rattle.evm_model.specs.Edits as model
-use Rattle.evm_model.proofs.Names.{by_name, by_test, same_name, name_itself, name_sym, different_names, not_both, neither, or_left, or-false, among_here, among_none, among_filter}
+use Rattle.evm_model.proofs.Names.{by_name, name_itself, name_sym, different_names, or_left, among_none, among_filter}
 use Rattle.evm_model.proofs.Orders.{ordered_filter}
-use Rattle.evm_model.proofs.Counts.{AllDiffer, same_length, ordered_differ}
+use Rattle.evm_model.proofs.Counts.{same_length, ordered_differ}
 use Rattle.evm_model.proofs.WellEdits.{unread}
 use Rattle.evm_model.proofs.ChangeLaws.{drop_gone}
 use Rattle.evm_scene.specs.declared.node.Node.{Node}
-use Rattle.evm_scene.specs.Tables.{Table, figure_of, node_at, node_reads, reads_at, node_value, node_stays, node_figure, kept, node_dim, dim_at, NodeSized, entry_view, entries_of, scene_of}
+use Rattle.evm_scene.specs.Tables.{Table, node_at, node_reads, reads_at, node_value, node_stays, node_figure, kept, node_dim, dim_at, NodeSized, entry_view, entries_of, scene_of}
 use Rattle.evm_scene.specs.Orders.{IsKept, is_other}
 use Rattle.evm_scene.proofs.Views.{value_same, stays_same, stands_at, operands_at}
 use Rattle.evm_scene.proofs.NewLast.{node_sized}

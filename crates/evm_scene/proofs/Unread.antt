@@ -1,25 +1,21 @@
 -- Names that no formula reads.
-use Rattle.std.proofs.Common.{◌≡◌, ℕ, ◌+◌, Bool, true, false, cond, not, ◌&&◌, ◌||◌, List, [], ◌∷◌, ◌++◌, length, filter, Option, None, Some, ℤ, refl, sym, ap, subst, ◌∙◌, true≢false, is_some, bytes_eq, arith}
+use Rattle.std.proofs.Common.{◌≡◌, ℕ, Bool, true, false, not, ◌&&◌, List, [], ◌∷◌, Option, refl, sym, ap, ◌∙◌, true≢false, is_some, bytes_eq}
 use Rattle.std.specs.List.{list_any, list_all}
 use Rattle.evm_cells.proofs.Xor.{and_first, and_second}
 use Rattle.evm_model.specs.Figures.{Figure, same_figure}
-use Rattle.evm_model.specs.Orders.{is_among, AllSeen, Ordered}
-use Rattle.evm_model.specs.Scene.{Scene, Entry, entry_of, stands, is_read, reaches, what_operands, entry_operands, operands_of, value, without_entry, IsWell}
+use Rattle.evm_model.specs.Orders.{is_among}
+use Rattle.evm_model.specs.Scene.{Scene, Entry, stands, is_read, what_operands, entry_operands, operands_of, value, IsWell}
 use Rattle.evm_model.specs.Edits as model
-use Rattle.evm_model.proofs.Names.{by_name, by_test, same_name, name_itself, name_sym, different_names, not_both, neither, or_left, or-false, among_here, among_none, among_filter, passes_none, none_passes}
-use Rattle.evm_model.proofs.Orders.{ordered_filter}
-use Rattle.evm_model.proofs.Counts.{AllDiffer, changed_count, same_length, ordered_differ}
+use Rattle.evm_model.proofs.Names.{by_name, by_test, not_both, neither, among_none, passes_none, none_passes}
+use Rattle.evm_model.proofs.Counts.{changed_count}
 use Rattle.evm_model.proofs.FigureLaws.{same_itself}
 use Rattle.evm_model.proofs.WellScenes.{all_entries, well_operands}
 use Rattle.evm_model.proofs.WellEdits.{unread}
 use Rattle.evm_model.proofs.EditLaws.{others_stay}
-use Rattle.evm_model.proofs.ChangeLaws.{drop_gone}
 use Rattle.evm_model.proofs.Stays.{unread_unreached}
-use Rattle.evm_scene.specs.declared.node.Node.{Node}
-use Rattle.evm_scene.specs.Tables.{Table, figure_of, node_at, node_reads, reads_at, node_value, node_figure, kept, node_dim, dim_at, NodeSized, entries_of, scene_of}
-use Rattle.evm_scene.specs.Orders.{IsKept, is_other}
-use Rattle.evm_scene.proofs.Views.{value_same, stands_at, operands_at, entries_whole}
-use Rattle.evm_scene.proofs.NewLast.{node_sized}
+use Rattle.evm_scene.specs.Tables.{Table, reads_at, entries_of, scene_of}
+use Rattle.evm_scene.specs.Orders.{IsKept}
+use Rattle.evm_scene.proofs.Views.{operands_at, entries_whole}
 
 not_true : (b : Bool) → not b ≡ true → b ≡ false
 not_true true q = absurd (true≢false (sym q))

@@ -1,17 +1,16 @@
 -- What the entries of a table say of its nodes, and how they change with it.
-use Rattle.std.proofs.Common.{◌≡◌, ℕ, zero, suc, ◌+◌, Bool, true, false, cond, not, ◌&&◌, ◌||◌, List, [], ◌∷◌, ◌++◌, Option, None, Some, refl, sym, ap, subst, ◌∙◌, true≢false, is_some, length, map, pos, slice_get, bytes_eq, arith}
+use Rattle.std.proofs.Common.{◌≡◌, ℕ, zero, suc, Bool, true, false, cond, not, ◌||◌, List, [], ◌∷◌, ◌++◌, Option, None, Some, refl, sym, ap, subst, ◌∙◌, true≢false, is_some, length, map, slice_get, bytes_eq, arith}
 use Rattle.std.specs.Prelude.{option_map}
 use Rattle.evm_cells.specs.Vertices.{cells}
 use Rattle.evm_rows.specs.Rows.{Vertices}
 use Rattle.evm_script.specs.declared.formula.Formula.{Formula}
 use Rattle.evm_model.specs.Figures.{Figure}
-use Rattle.evm_model.specs.Orders.{is_among, AllSeen, Ordered}
-use Rattle.evm_model.specs.Scene.{Scene, Entry, What, Given, Made, entry_of, stands, dim_of, dim_of_entry, is_input, entry_is_given, what_is_given, entry_operands, what_operands, operands_of, entry_value, what_value, value, reaches, with_entry, without_entry}
+use Rattle.evm_model.specs.Orders.{is_among, Ordered}
+use Rattle.evm_model.specs.Scene.{Entry, What, Given, Made, entry_of, stands, dim_of, dim_of_entry, is_input, entry_is_given, what_is_given, entry_operands, what_operands, operands_of, entry_value, what_value, value, reaches, with_entry}
 use Rattle.evm_model.proofs.Names.{same_name, name_itself}
 use Rattle.evm_model.proofs.Levels.{value_unique, reach_found, operands_stand, formula_same, formula_stays_same}
 use Rattle.evm_scene.specs.declared.node.Node.{Node}
-use Rattle.evm_scene.specs.declared.node.Change.{Change}
-use Rattle.evm_scene.specs.Tables.{Table, figure_of, node_at, made_reads, node_reads, reads_at, made_value, node_value, made_stays, node_stays, node_figure, kept, node_dim, dim_at, is_made, NodeSized, put_solid, with_solid, put_made, with_made, what_of, entry_view, entries_of, scene_of}
+use Rattle.evm_scene.specs.Tables.{Table, figure_of, node_at, made_reads, node_reads, reads_at, made_value, node_value, made_stays, node_stays, kept, node_dim, dim_at, is_made, NodeSized, put_solid, with_solid, put_made, with_made, what_of, entry_view, entries_of, scene_of}
 use Rattle.evm_scene.specs.Changes.{Pending, change_at, put_all}
 use Rattle.evm_scene.specs.Orders.{IsKept, meets}
 use Rattle.evm_scene.specs.Shown.{name_of_entry, what_formula, entry_formula}

@@ -1,10 +1,9 @@
 -- A walk over an order that carries a change: what holds while it goes on.
-use Rattle.std.proofs.Common.{◌≡◌, ℕ, ◌+◌, Bool, true, false, cond, ◌||◌, List, [], ◌∷◌, ◌++◌, Option, None, Some, refl, sym, ap, subst, ◌∙◌, true≢false, is_some, drop, get_or, length, ◌<◌, ◌≤◌, drop-cons, add-one, arith, bytes_eq}
+use Rattle.std.proofs.Common.{◌≡◌, ℕ, ◌+◌, Bool, true, false, cond, ◌||◌, List, [], ◌∷◌, Option, None, Some, refl, sym, ap, subst, ◌∙◌, true≢false, is_some, drop, get_or, length, ◌<◌, ◌≤◌, drop-cons, add-one, bytes_eq}
 use Rattle.std.proofs.lemmas.Bool.{both_ways}
 use Rattle.std.proofs.lemmas.List.{drop_all}
-use Rattle.evm_model.specs.Figures.{Figure}
 use Rattle.evm_model.specs.Orders.{is_among, AllSeen, Ordered}
-use Rattle.evm_model.proofs.Names.{same_name, equal_names, different_names, name_itself, or_left, or_right, or_none, among_here, among_later, apart, apart_back}
+use Rattle.evm_model.proofs.Names.{same_name, equal_names, different_names, name_itself, or_none, among_here, among_later, apart, apart_back}
 use Rattle.evm_model.proofs.Levels.{ordered_reads}
 use Rattle.evm_scene.specs.declared.node.Node.{Node}
 use Rattle.evm_scene.specs.declared.node.Change.{Change}

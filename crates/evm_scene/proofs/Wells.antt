@@ -1,24 +1,23 @@
 -- A table in order shows a well scene, and edits of names that no other reads change no other value.
-use Rattle.std.proofs.Common.{◌≡◌, ℕ, ◌+◌, ◌*◌, ◌==◌, Bool, true, false, cond, not, ◌&&◌, ◌||◌, List, [], ◌∷◌, ◌++◌, Option, None, Some, refl, sym, ap, subst, ◌∙◌, true≢false, is_some, length, map, ℤ, pos, bytes_eq, arith}
-use Rattle.std.specs.Prelude.{nat_abs, option_map}
-use Rattle.std.specs.List.{list_any, list_all, IsDistinct}
-use Rattle.std.proofs.lemmas.Bool.Decides.{Decides-eqb}
+use Rattle.std.proofs.Common.{◌≡◌, ℕ, Bool, true, not, ◌||◌, List, [], ◌∷◌, Option, None, Some, refl, sym, ap, subst, ◌∙◌, map, pos, bytes_eq}
+use Rattle.std.specs.Prelude.{option_map}
+use Rattle.std.specs.List.{list_any, IsDistinct}
 use Rattle.evm_cells.specs.Limits.{IsCellSet}
 use Rattle.evm_cells.specs.Vertices.{cells}
 use Rattle.evm_cells.proofs.Universe.{cell_set-cells}
 use Rattle.evm_cells.proofs.Xor.{and_both}
 use Rattle.evm_script.specs.declared.formula.Formula.{Formula}
-use Rattle.evm_model.specs.Figures.{Figure, box_fits, low_of, high_of}
+use Rattle.evm_model.specs.Figures.{Figure}
 use Rattle.evm_model.specs.Orders.{is_among}
-use Rattle.evm_model.specs.Scene.{Scene, Entry, What, Given, Made, has_name, entry_of, dim_of, is_dim, formula_dim, formula_fits, formula_in_range, names_differ, what_is_sound, what_stays, all_stay, value, with_figure, IsWell}
+use Rattle.evm_model.specs.Scene.{Scene, Entry, Given, has_name, entry_of, is_dim, names_differ, what_is_sound, what_stays, all_stay, value, with_figure, IsWell}
 use Rattle.evm_model.proofs.Lookups.{differ_with}
 use Rattle.evm_model.proofs.Counts.{AllDiffer, differ_distinct}
-use Rattle.evm_model.proofs.WellScenes.{all_entries, sound_made, sound_cells}
+use Rattle.evm_model.proofs.WellScenes.{all_entries, sound_cells}
 use Rattle.evm_scene.specs.declared.node.Node.{Node}
-use Rattle.evm_scene.specs.Tables.{Table, node_at, dim_at, node_stays, kept, FormulaSized, MadeSized, NodeSized, what_of, entry_view, entries_of, scene_of}
+use Rattle.evm_scene.specs.Tables.{Table, node_at, dim_at, node_stays, kept, MadeSized, NodeSized, what_of, entry_view, entries_of, scene_of}
 use Rattle.evm_scene.specs.Orders.{IsKept}
 use Rattle.evm_scene.proofs.FormulaLaws.{formula_sound}
-use Rattle.evm_scene.proofs.Views.{entry_at, dim_is, entries_ordered, entries_whole, entries_size, kept_is_value, stays_same}
+use Rattle.evm_scene.proofs.Views.{entry_at, entries_ordered, entries_whole, entries_size, kept_is_value, stays_same}
 use Rattle.evm_scene.proofs.Halted.{node_shown_stays}
 
 -- the names of a table

@@ -1,5 +1,5 @@
 -- Changes of solids that are made and not yet in place.
-use Rattle.std.specs.Prelude.{ℕ, ◌≡◌, Bool, true, false, cond, List, [], ◌∷◌, Option, None, Some, bytes_eq, length}
+use Rattle.std.specs.Prelude.{ℕ, ◌≡◌, true, false, cond, List, [], ◌∷◌, Option, None, Some, bytes_eq, length}
 use Rattle.std.specs.List.{IsDistinct}
 use Rattle.std.specs.Map.{lookup, keys_of}
 use Rattle.evm_cells.specs.Vertices.{cells}

@@ -5,6 +5,6 @@ pub mod Applied
 pub mod Shown
 pub mod Combined
 pub mod Definitions
-pub mod BoxEdits
+pub mod InputEdits
 pub mod Operations
 pub mod Refused

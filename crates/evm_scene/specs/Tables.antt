@@ -1,5 +1,5 @@
 -- The table of names: nodes with their solids, and the value of a node where those of its operands are given.
-use Rattle.std.specs.Prelude.{ℕ, ◌≡◌, ◌+◌, ◌-◌, ◌*◌, Bool, true, false, ℤ, pos, nat_abs, List, [], ◌∷◌, length, map, Option, None, Some, is_some, bytes_eq, if◌then◌else◌}
+use Rattle.std.specs.Prelude.{ℕ, ◌≡◌, ◌+◌, ◌-◌, ◌*◌, Bool, true, false, pos, nat_abs, List, [], ◌∷◌, length, map, Option, None, Some, is_some, bytes_eq, if◌then◌else◌}
 use Rattle.std.specs.Map.{lookup}
 use Rattle.evm_cells.specs.Limits.{is_cell_coord}
 use Rattle.evm_cells.specs.Shapes.{is_shift}

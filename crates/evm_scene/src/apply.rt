@@ -2,13 +2,14 @@
 
 ghost use Rattle.std.specs.Prelude.{◌≡◌};
 ghost use Rattle.evm_scene.specs.Applied.{Applies, edit_view};
-ghost use Rattle.evm_scene.specs.BoxEdits.{edit_by};
+ghost use Rattle.evm_scene.specs.InputEdits.{edit_by};
 
 use super::added::input;
 use super::boxes::{BoxEdit, edit_by_box};
 use super::defined::define;
 use super::edit::{Changed, Edit, Refusal};
 use super::removed::remove;
+use super::replaced::replace;
 use super::scene::Scene;
 use evm_script::{Name, Nums};
 use std::alloc::Global;
@@ -17,7 +18,8 @@ impl Scene {
     /// Makes an edit, and answers how many names stood before and after and changed their cells.
     ///
     /// A refused edit leaves the scene as it is; the refusal is the first cause that holds, in the order of `Refusal`, or
-    /// `NoMemory`, which may come at any edit. Takes memory for the change of each name that changes, and its solid after.
+    /// `NoMemory`, which may come at any edit. Takes memory for the change of each name that changes, and its solid after; a
+    /// solid that the edit brings is taken as it is, or dropped where the edit is refused.
     pub fn apply(&mut self, alloc: Global, edit: Edit) -> Result<Changed, Refusal>
         ensures { Applies result self.old self.new (edit_view edit) }
     {
@@ -27,6 +29,9 @@ impl Scene {
             Edit::Toggle { name, nums } => self.put_box(alloc, BoxEdit::Toggle, &name, &nums),
             Edit::Add { name, nums } => self.put_box(alloc, BoxEdit::Add, &name, &nums),
             Edit::Cut { name, nums } => self.put_box(alloc, BoxEdit::Cut, &name, &nums),
+            Edit::Replace { name, solid } => {
+                replace(alloc, &mut self.table, self.order.as_slice(), &name, solid)
+            }
             Edit::Def { name, formula } => {
                 define(alloc, &mut self.table, &mut self.order, name, formula)
             }

@@ -6,11 +6,11 @@ ghost use Rattle.evm_scene.specs.Tables.{figure_of, node_at, kept, dim_at, NodeS
 ghost use Rattle.evm_scene.specs.Orders.{IsKept};
 ghost use Rattle.evm_scene.specs.Changes.{IsChange};
 ghost use Rattle.evm_scene.specs.Applied.{Applies};
-ghost use Rattle.evm_scene.specs.BoxEdits.{figure_by, edit_by, IsRefused, IsPlanned};
+ghost use Rattle.evm_scene.specs.InputEdits.{figure_by, edit_by, IsRefused, IsPlanned};
 
 use super::edit::{Changed, Refusal};
 use super::inputs::set_input;
-use super::node::{Change, Node};
+use super::node::{Change, Node, changed_to};
 use super::numbers::box_of;
 use super::solids::{combine, exclusive_or};
 use evm_boolean::Op2;
@@ -28,16 +28,6 @@ pub enum BoxEdit {
     Add,
     /// The cells of the box go out.
     Cut,
-}
-
-/// The change of a solid to another.
-fn changed_to(alloc: Global, own: &Solid, after: Solid) -> Result<Change, NoMemory>
-    requires { after.dim ≡ own.now.dim }
-    ensures after { IfOk result (λ c. c.after ≡ after) }
-    ensures change { IfOk result (λ c. IsChange (Some c) (figure_of own.now)) }
-{
-    let delta = exclusive_or(alloc, own, &after)?;
-    Ok(Change { delta, after })
 }
 
 /// The change of a solid by a box.

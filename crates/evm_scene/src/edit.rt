@@ -5,24 +5,48 @@ ghost use Rattle.evm_scene.specs.declared.edit.Refusal.TheVariants as refusals;
 ghost use Rattle.evm_scene.specs.Refused.{of_delta_error};
 
 use evm_delta::DeltaError;
-use evm_rows::NoMemory;
+use evm_rows::{NoMemory, Solid};
 use evm_script::{Formula, Name, Num, Nums};
 
-/// An edit of a scene.
-#[derive(Clone, Copy, Debug, Drop)]
+/// An edit of a scene. It owns the solid that it brings, if it brings one; what `Debug` prints leaves that out.
+#[derive(Drop)]
+#[derive_where(Debug)]
 pub enum Edit {
     /// A new input of this dimension, without cells.
-    Input { name: Name, dim: Num },
+    Input {
+        name: Name,
+        dim: Num,
+    },
     /// The cells of a box that are in the input go out of it, and the others come in. Its lower corner stands first.
-    Toggle { name: Name, nums: Nums },
+    Toggle {
+        name: Name,
+        nums: Nums,
+    },
     /// The cells of a box come into the input.
-    Add { name: Name, nums: Nums },
+    Add {
+        name: Name,
+        nums: Nums,
+    },
     /// The cells of a box go out of the input.
-    Cut { name: Name, nums: Nums },
+    Cut {
+        name: Name,
+        nums: Nums,
+    },
+    /// The input gets another solid, of the same dimension.
+    Replace {
+        name: Name,
+        #[derive_where(skip)]
+        solid: Solid,
+    },
     /// A name stands for a formula: a new name, or one that stood for another formula.
-    Def { name: Name, formula: Formula },
+    Def {
+        name: Name,
+        formula: Formula,
+    },
     /// A name that nothing reads is taken out.
-    Drop { name: Name },
+    Drop {
+        name: Name,
+    },
 }
 
 /// Why an edit is refused. Where several causes hold, it is the first of them in this order.
@@ -32,13 +56,14 @@ pub enum Refusal {
     Name,
     /// The name of a new input stands already.
     Taken,
-    /// A box edit of a formula, or a definition of an input.
+    /// A box edit of a formula or another solid for one, or a definition of an input.
     Kind,
     /// A name that is to be taken out is an operand of a formula.
     Used,
     /// A formula would reach its own name through its operands.
     Cycle,
-    /// The dimension is none that solids have, operands differ in it, or the numbers are not as many as it asks for.
+    /// The dimension is none that solids have, operands or an input and its other solid differ in it, or the numbers are not
+    /// as many as it asks for.
     Dim,
     /// A stated number is past its limits.
     Range,

@@ -21,6 +21,7 @@ mod operations;
 mod ranges;
 mod removed;
 mod reorder;
+mod replaced;
 mod scene;
 mod shapes;
 mod solids;

@@ -37,6 +37,16 @@ pub struct Change {
     pub after: Solid,
 }
 
+/// The change of a solid to another.
+pub fn changed_to(alloc: Global, own: &Solid, after: Solid) -> Result<Change, NoMemory>
+    requires { after.dim ≡ own.now.dim }
+    ensures after { IfOk result (λ c. c.after ≡ after) }
+    ensures change { IfOk result (λ c. IsChange (Some c) (figure_of own.now)) }
+{
+    let delta = exclusive_or(alloc, own, &after)?;
+    Ok(Change { delta, after })
+}
+
 /// The change of an operand, or the one without cells.
 fn delta_or<'a>(change: Option<&'a Change>, own: &Solid, still: &'a Solid) -> &'a Solid
     requires change { IsChange (option_copied change) (figure_of own.now) }

@@ -1,6 +1,7 @@
 //! A scene through each of its calls, with values worked out by hand. Whole scripts are run by the program's tests.
 
 use super::*;
+use evm_rows::Solid;
 use evm_script::{Formula, Name, Num, Nums};
 use std::test::*;
 
@@ -58,5 +59,17 @@ fn formulas_follow_inputs(rt: HostRuntime) -> Result<(), Fail> {
     assert_eq!(rt; scene.apply(rt.alloc(), dropped), Err(Refusal::Used));
     let copy = scene.solid(rt.alloc(), &name_a).map_err(|_| "a")?;
     assert_eq!(rt; copy.flat(), [0, 0, 0, 2, 2, 0, 2, 2].as_slice());
+    let again = Edit::Replace {
+        name: name_a,
+        solid: copy,
+    };
+    assert_eq!(rt; scene.apply(rt.alloc(), again), Ok(Changed { names: 0 }));
+    let other = Edit::Replace {
+        name: name_a,
+        solid: Solid::of_box(rt.alloc(), &[0, 0], &[1, 1]).map_err(|_| "box")?,
+    };
+    assert_eq!(rt; scene.apply(rt.alloc(), other), Ok(Changed { names: 2 }));
+    let mirrored = scene.kept(&name_m).ok_or("m")?;
+    assert_eq!(rt; mirrored.flat(), [-1, 0, -1, 1, 0, 0, 0, 1].as_slice());
     Ok(())
 }

@@ -1,7 +1,6 @@
-use Rattle.std.proofs.Common.{◌≡◌, ℕ, ◌+◌, List, [], ◌∷◌, ◌++◌, sym, subst, ap, ◌∙◌, length, length-append, arith}
+use Rattle.std.proofs.Common.{◌≡◌, ◌+◌, List, [], ◌∷◌, ◌++◌, sym, subst, ap, ◌∙◌, length, length-append, arith}
 use Rattle.std.specs.Prelude.{bytes_eq}
 use Rattle.indexmap.proofs.CallerLemmas.{insert_entry-new}
-use Rattle.evm_scene.specs.Tables.{Table}
 use Rattle.evm_scene.specs.Orders.{IsKept}
 use Rattle.evm_scene.specs.Tables.{entries_of}
 use Rattle.evm_scene.proofs.NewLast.{kept_added}

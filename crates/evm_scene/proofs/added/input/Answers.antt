@@ -1,6 +1,5 @@
-use Rattle.std.proofs.Common.{◌≡◌, ℕ, List, Bool, true, false, Option, is_some, rules, refl, sym, subst, ap, ◌∙◌}
+use Rattle.std.proofs.Common.{◌≡◌, true, false, is_some, rules, refl}
 use Rattle.evm_model.specs.Scene.{is_dim}
-use Rattle.evm_scene.specs.declared.node.Node.{Node}
 use Rattle.evm_scene.specs.Tables.{node_at}
 use Rattle.evm_scene.proofs.NewNames.{input_refusal, input_done}
 use Rattle.evm_scene.proofs.added.input.Goals as goal

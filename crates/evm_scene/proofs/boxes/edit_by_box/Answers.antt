@@ -3,7 +3,7 @@ use Rattle.evm_delta.specs.declared.shapes.DeltaError.{DeltaError}
 use Rattle.evm_scene.specs.declared.edit.Refusal.{Refusal}
 use Rattle.evm_scene.specs.Tables.{scene_of}
 use Rattle.evm_scene.specs.Applied.{Applies}
-use Rattle.evm_scene.specs.BoxEdits.{edit_by}
+use Rattle.evm_scene.specs.InputEdits.{edit_by}
 use Rattle.evm_scene.proofs.Views.{kept_is_value}
 use Rattle.evm_scene.proofs.Planned.{planned_done, planned_failed}
 use Rattle.evm_scene.proofs.boxes.edit_by_box.Goals as goal

@@ -1,6 +1,5 @@
-use Rattle.std.proofs.Common.{◌≡◌, ◌*◌, ◌==◌, true, false, Some, None, is_some, rules, sym, subst, length, List, ℤ, Ok, Err}
+use Rattle.std.proofs.Common.{◌≡◌, ◌*◌, ◌==◌, true, false, is_some, rules, sym, subst, length, List, ℤ, Ok, Err}
 use Rattle.evm_scene.specs.Combined.{MakesBox}
-use Rattle.evm_scene.specs.Tables.{node_at}
 use Rattle.evm_scene.proofs.Planned.{absent, formula_refused, dim_refused, box_refused, plan}
 use Rattle.evm_scene.proofs.boxes.planned.Goals as goal
 

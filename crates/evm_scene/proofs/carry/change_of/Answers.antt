@@ -1,4 +1,4 @@
-use Rattle.std.proofs.Common.{◌≡◌, Some, sym}
+use Rattle.std.proofs.Common.{sym}
 use Rattle.evm_scene.specs.declared.operations.Operation.TheVariants as does
 use Rattle.evm_scene.proofs.FormulaLaws.{node_operation}
 use Rattle.evm_scene.proofs.carry.change_of.Goals as goal

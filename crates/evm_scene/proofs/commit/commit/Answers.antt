@@ -1,7 +1,6 @@
 use Rattle.std.proofs.Common.{◌∙◌, sym, ap}
 use Rattle.evm_scene.specs.Changes.{put_all}
 use Rattle.evm_scene.proofs.Puts.{put_all_last}
-use Rattle.evm_scene.proofs.Kepts.{kept_again}
 use Rattle.evm_scene.proofs.commit.commit.Goals as goal
 
 pub loop-change-preserved : goal.loop-change-preserved

@@ -1,4 +1,4 @@
-use Rattle.std.proofs.Common.{◌≡◌, Bool, Option, Some, true, false, not, is_some, refl, sym, ap, ◌∙◌, rules}
+use Rattle.std.proofs.Common.{◌≡◌, Some, false, is_some, refl, sym, ◌∙◌, rules}
 use Rattle.std.specs.Prelude.{option_map}
 use Rattle.evm_model.specs.Edits.{lacks_operand}
 use Rattle.evm_scene.specs.declared.node.Node.{Node}

@@ -1,6 +1,5 @@
-use Rattle.std.proofs.Common.{◌≡◌, ℕ, List, Bool, true, false, not, ◌&&◌, is_some, rules, refl, sym, subst, ap, ◌∙◌}
-use Rattle.evm_model.specs.Orders.{is_among}
-use Rattle.evm_model.specs.Scene.{operands, formula_in_range}
+use Rattle.std.proofs.Common.{Bool, not, ◌&&◌, refl, sym, ap, ◌∙◌}
+use Rattle.evm_model.specs.Scene.{formula_in_range}
 use Rattle.evm_scene.specs.Tables.{scene_of, kept}
 use Rattle.evm_scene.specs.Definitions.{IsValue}
 use Rattle.evm_scene.proofs.Causes.{refused_cycle, refused_dim, refused_range, unmade, no_input, cycle_itself, dim_missed, operand_present, no_cycle, made_sized, new_left, new_done}

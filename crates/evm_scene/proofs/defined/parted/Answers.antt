@@ -1,4 +1,4 @@
-use Rattle.std.proofs.Common.{◌≡◌, List, [], ◌∷◌, sym, subst, ap}
+use Rattle.std.proofs.Common.{[], ◌∷◌, sym, subst}
 use Rattle.evm_model.specs.Orders.{Ordered}
 use Rattle.evm_scene.specs.Tables.{reads_at}
 use Rattle.evm_scene.proofs.Splits.{cut_front, cut_rest}

@@ -6,7 +6,7 @@ use Rattle.evm_model.specs.Edits as model
 use Rattle.evm_scene.specs.declared.edit.Refusal.{Refusal}
 use Rattle.evm_scene.specs.Tables.{kept, scene_of}
 use Rattle.evm_scene.specs.Applied.{Applies}
-use Rattle.evm_scene.specs.Changes.{IsRedefined, IsStuck}
+use Rattle.evm_scene.specs.Changes.{IsStuck}
 use Rattle.evm_scene.proofs.Causes.{refused_cycle, refused_dim, refused_range, unmade}
 use Rattle.evm_scene.proofs.Wells.{well_kept}
 use Rattle.evm_scene.proofs.Stuck.{own_out, stuck_out, both_out}

@@ -1,7 +1,6 @@
 use Rattle.std.proofs.Common.{◌∙◌, sym, ap}
 use Rattle.evm_scene.specs.Tables.{with_made}
 use Rattle.evm_scene.proofs.Mades.{set_is_made, made_absent}
-use Rattle.evm_scene.proofs.Installed.{installed_kept}
 use Rattle.evm_scene.proofs.defined.set_made.Goals as goal
 
 pub returns-in-Some : goal.returns-in-Some

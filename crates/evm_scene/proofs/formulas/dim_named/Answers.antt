@@ -1,4 +1,4 @@
-use Rattle.std.proofs.Common.{◌≡◌, ◌≤◌, ℕ, Option, Some, is_some, sym, ap, ◌∙◌, subst, true}
+use Rattle.std.proofs.Common.{◌≤◌, Option, sym, ap, ◌∙◌, subst}
 use Rattle.evm_scene.specs.declared.node.Node.{Node}
 use Rattle.evm_scene.specs.Tables.{node_at, node_dim, dim_at}
 use Rattle.evm_scene.proofs.Views.{dim_is}

@@ -1,4 +1,4 @@
-use Rattle.std.proofs.Common.{◌≡◌, true, sym, ◌∙◌, rules}
+use Rattle.std.proofs.Common.{◌≡◌, true, rules}
 use Rattle.evm_model.specs.Scene.{formula_in_range}
 use Rattle.evm_scene.specs.declared.operations.Operation.TheVariants as does
 use Rattle.evm_scene.specs.Tables.{scene_of}

@@ -1,5 +1,5 @@
-use Rattle.std.proofs.Common.{◌≡◌, Bool, true, false, not, ◌&&◌, is_some, bytes_eq, sym, ap, ◌∙◌, rules}
-use Rattle.evm_scene.specs.Tables.{node_at, scene_of}
+use Rattle.std.proofs.Common.{◌≡◌, Bool, false, not, ◌&&◌, bytes_eq, sym, ap, ◌∙◌, rules}
+use Rattle.evm_scene.specs.Tables.{scene_of}
 use Rattle.evm_model.specs.Scene.{stands}
 use Rattle.evm_scene.proofs.Views.{stands_at}
 use Rattle.evm_scene.proofs.formulas.is_lacking.Goals as goal

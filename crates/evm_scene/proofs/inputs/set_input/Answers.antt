@@ -1,4 +1,4 @@
-use Rattle.std.proofs.Common.{◌≡◌, ℕ, List, [], ◌∷◌, Option, Some, is_some, true, refl, sym, ap, subst, ◌∙◌, rules}
+use Rattle.std.proofs.Common.{◌≡◌, sym, ap, subst, ◌∙◌, rules}
 use Rattle.evm_model.specs.Scene.{with_figure}
 use Rattle.evm_model.specs.Edits.{changed_names}
 use Rattle.evm_scene.specs.declared.node.Change.{Change}

@@ -1,4 +1,4 @@
-use Rattle.std.proofs.Common.{◌≡◌, List, ℕ, ℤ, pos, ◌-ℤ◌, neg_ℤ, take, drop, length, to_z, of_z, w32, Ok, Err, rules, sym, ◌∙◌, refl, ap}
+use Rattle.std.proofs.Common.{◌≡◌, pos, ◌-ℤ◌, neg_ℤ, take, drop, length, to_z, of_z, w32, Err, rules, sym, ◌∙◌, ap}
 use Rattle.evm_cells.specs.Limits.{limit}
 use Rattle.evm_cells.specs.Boxes.{is_box}
 use Rattle.evm_scene.proofs.Corners.{between_points, no_box, fits_by, box_by, box_dim, must_fit}

@@ -1,4 +1,4 @@
-use Rattle.std.proofs.Common.{◌≡◌, ◌≤◌, take, length, true}
+use Rattle.std.proofs.Common.{◌≡◌, take, length, true}
 use Rattle.std.specs.List.{list_all}
 use Rattle.evm_scene.specs.Combined.{is_between}
 use Rattle.evm_scene.proofs.numbers.coordinates.Given as goal

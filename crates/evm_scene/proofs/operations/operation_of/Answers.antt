@@ -1,4 +1,4 @@
-use Rattle.std.proofs.Common.{◌≡◌, true, subst}
+use Rattle.std.proofs.Common.{subst}
 use Rattle.evm_script.specs.declared.formula.Formula.{Formula}
 use Rattle.evm_scene.specs.Tables.{FormulaStated}
 use Rattle.evm_scene.proofs.Stated.{cell_point}

@@ -1,7 +1,7 @@
-use Rattle.std.proofs.Common.{◌≡◌, ℕ, ◌+◌, List, [], ◌∷◌, ◌++◌, sym, subst, ap, ◌∙◌, drop, get_or}
+use Rattle.std.proofs.Common.{◌≡◌, ℕ, List, sym, subst, ap, ◌∙◌}
 use Rattle.evm_scene.specs.Tables.{reads_at}
 use Rattle.evm_scene.specs.Orders.{Parted}
-use Rattle.evm_scene.proofs.Parts.{part_start, part_hit_at, part_miss_at, part_new, new_order}
+use Rattle.evm_scene.proofs.Parts.{part_start, part_hit_at, part_miss_at, part_new}
 use Rattle.evm_scene.proofs.reorder.part.Goals as goal
 use Rattle.evm_scene.proofs.reorder.part.Goals.{then-reads_one+in_ok-join, else-reads_one+in_ok-append}
 

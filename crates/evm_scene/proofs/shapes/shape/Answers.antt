@@ -1,4 +1,4 @@
-use Rattle.std.proofs.Common.{◌≡◌, IfOk}
+use Rattle.std.proofs.Common.{◌≡◌}
 use Rattle.evm_rows.specs.Rows.{Vertices, cells_of}
 use Rattle.evm_rows.specs.View.{vertices_of}
 use Rattle.evm_delta.specs.Shapes.{op1_dim, op1_cells, in_range}

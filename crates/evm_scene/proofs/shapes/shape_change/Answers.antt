@@ -1,4 +1,4 @@
-use Rattle.std.proofs.Common.{◌≡◌, IfOk, sym, ◌∙◌, true}
+use Rattle.std.proofs.Common.{◌≡◌, ◌∙◌}
 use Rattle.evm_cells.specs.Booleans.{xor_cells}
 use Rattle.evm_rows.specs.Rows.{Vertices, cells_of}
 use Rattle.evm_rows.specs.View.{vertices_of}

@@ -1,6 +1,6 @@
-use Rattle.std.proofs.Common.{◌≡◌, ap, sym, ◌∙◌, subst, false}
+use Rattle.std.proofs.Common.{ap, ◌∙◌}
 use Rattle.evm_rows.specs.View.{vertices_of}
-use Rattle.evm_model.specs.Figures.{Figure, xor_of, same_figure}
+use Rattle.evm_model.specs.Figures.{xor_of, same_figure}
 use Rattle.evm_scene.specs.Tables.{figure_of}
 use Rattle.evm_scene.proofs.Figures.{figure_set, xor_made, xor_back, xor_same, xor_moves}
 use Rattle.evm_scene.proofs.solids.exclusive_or.Goals as goal

@@ -1,4 +1,4 @@
-use Rattle.std.proofs.Common.{◌≡◌, true, eqb-true, eq-eqb, ◌∙◌, sym, IsTrue}
+use Rattle.std.proofs.Common.{eqb-true, eq-eqb, ◌∙◌, sym}
 use Rattle.evm_scene.proofs.Figures.{no_vertices}
 use Rattle.evm_scene.proofs.solids.is_none.Goals as goal
 

@@ -1,9 +1,8 @@
-use Rattle.std.proofs.Common.{◌≡◌, Bool, true, false, not, Option, None, Some, List, length, is_some, map, slice_get, refl, sym, ap, ◌∙◌, subst, rules}
-use Rattle.evm_model.specs.Scene.{Scene, stands, dim_of, is_input, entry_of, value}
+use Rattle.std.proofs.Common.{◌≡◌, Bool, true, false, not, Option, Some, is_some, sym, ap, ◌∙◌, subst}
+use Rattle.evm_model.specs.Scene.{Scene, stands, dim_of, is_input}
 use Rattle.evm_scene.specs.declared.node.Node.{Node}
-use Rattle.evm_scene.specs.Tables.{figure_of, node_at, node_figure, node_dim, scene_of}
-use Rattle.evm_scene.specs.Shown.{entry_formula}
-use Rattle.evm_scene.proofs.Views.{stands_at, dim_is, input_at, is_given, formula_at, node_formula, kept_is_value}
+use Rattle.evm_scene.specs.Tables.{node_at, node_dim}
+use Rattle.evm_scene.proofs.Views.{stands_at, dim_is, input_at, is_given}
 use Rattle.evm_scene.proofs.scene.Scene.entry.Goals as goal
 
 turned : (a b : Bool) → a ≡ not b → b ≡ not a

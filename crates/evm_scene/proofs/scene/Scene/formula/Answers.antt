@@ -1,10 +1,9 @@
-use Rattle.std.proofs.Common.{◌≡◌, Bool, true, false, not, Option, None, Some, List, length, is_some, map, slice_get, refl, sym, ap, ◌∙◌, subst, rules}
+use Rattle.std.proofs.Common.{◌≡◌, None, Some, sym, ap, ◌∙◌, subst}
 use Rattle.std.specs.Option.{option_copied}
-use Rattle.evm_model.specs.Scene.{Scene, stands, dim_of, is_input, entry_of, value}
-use Rattle.evm_scene.specs.declared.node.Node.{Node}
-use Rattle.evm_scene.specs.Tables.{figure_of, node_at, node_figure, node_dim, scene_of}
+use Rattle.evm_model.specs.Scene.{Scene}
+use Rattle.evm_scene.specs.Tables.{node_at}
 use Rattle.evm_scene.specs.Shown.{formula_of}
-use Rattle.evm_scene.proofs.Views.{stands_at, dim_is, input_at, is_given, formula_at, node_formula, kept_is_value}
+use Rattle.evm_scene.proofs.Views.{formula_at, node_formula}
 use Rattle.evm_scene.proofs.scene.Scene.formula.Goals as goal
 
 pub returns-in_default : goal.returns-in_default

@@ -1,9 +1,8 @@
-use Rattle.std.proofs.Common.{◌≡◌, Bool, true, false, not, Option, None, Some, List, length, is_some, map, slice_get, refl, sym, ap, ◌∙◌, subst, rules}
-use Rattle.evm_model.specs.Scene.{Scene, stands, dim_of, is_input, entry_of, value}
+use Rattle.std.proofs.Common.{◌≡◌, true, false, Option, Some, is_some, sym, ap, ◌∙◌, subst}
+use Rattle.evm_model.specs.Scene.{Scene, stands, dim_of, value}
 use Rattle.evm_scene.specs.declared.node.Node.{Node}
-use Rattle.evm_scene.specs.Tables.{figure_of, node_at, node_figure, node_dim, dim_at, NodeSized, scene_of}
-use Rattle.evm_scene.specs.Shown.{entry_formula}
-use Rattle.evm_scene.proofs.Views.{stands_at, dim_is, input_at, is_given, formula_at, node_formula, kept_is_value}
+use Rattle.evm_scene.specs.Tables.{figure_of, node_at, node_figure, node_dim, dim_at, NodeSized}
+use Rattle.evm_scene.proofs.Views.{stands_at, dim_is, kept_is_value}
 use Rattle.evm_scene.proofs.scene.Scene.kept.Goals as goal
 
 pub returns-in_default-clause-value : goal.returns-in_default-clause-value

@@ -1,10 +1,9 @@
-use Rattle.std.proofs.Common.{◌≡◌, Bool, true, false, not, Option, None, Some, List, length, is_some, map, slice_get, option_map, refl, sym, ap, ◌∙◌, subst, rules}
-use Rattle.evm_model.specs.Scene.{Scene, Entry, stands, dim_of, is_input, entry_of, value}
-use Rattle.evm_scene.specs.declared.node.Node.{Node}
-use Rattle.evm_scene.specs.Tables.{figure_of, node_at, node_figure, node_dim, entries_of, scene_of}
+use Rattle.std.proofs.Common.{◌≡◌, Some, slice_get, option_map, sym, ◌∙◌, subst}
+use Rattle.evm_model.specs.Scene.{Scene, Entry}
+use Rattle.evm_scene.specs.Tables.{entries_of}
 use Rattle.std.proofs.lemmas.Option.{slice_get-map}
 use Rattle.evm_scene.specs.Shown.{name_of_entry}
-use Rattle.evm_scene.proofs.Views.{stands_at, dim_is, input_at, is_given, formula_at, node_formula, kept_is_value, name_shown}
+use Rattle.evm_scene.proofs.Views.{name_shown}
 use Rattle.evm_scene.proofs.scene.Scene.name_at.Goals as goal
 
 pub returns : goal.returns

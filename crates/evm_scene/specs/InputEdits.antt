@@ -1,4 +1,4 @@
--- Edits of an input by a box.
+-- Edits of an input, by a box or by another solid.
 use Rattle.std.specs.Prelude.{ℕ, ◌≡◌, true, false, ℤ, List, Some, is_some}
 use Rattle.evm_model.specs.Figures.{Figure, xor_of, or_of, sub_of}
 use Rattle.evm_model.specs.Scene.{Scene, with_figure}
