@@ -4,3 +4,8 @@ pub mod Answering
 pub mod Slicing
 pub mod Lines
 pub mod Listing
+pub mod Shelved
+pub mod Marks
+pub mod Loading
+pub mod Filed
+pub mod Refused

@@ -1,17 +1,15 @@
--- Lines that are no commands, and blank ones.
-use Rattle.std.proofs.Common.{◌≡◌, ℕ, List, [], ◌∷◌, ◌++◌, Result, Ok, Err, refl, sym, ap, subst}
-use Rattle.evm_script.specs.Line.{command, Reads}
+-- Blank lines, and what a line that is a command asks.
+use Rattle.std.proofs.Common.{◌≡◌, ℕ, List, [], ◌∷◌, ◌++◌, Result, Ok, refl, sym, ap}
+use Rattle.evm_script.specs.Line.{command}
 use Rattle.evm_script.specs.declared.command.Command.{Command}
 use Rattle.evm_script.specs.declared.command.Command.TheVariants as commands
 use Rattle.evm_script.specs.declared.command.LineError.{LineError}
-use Rattle.evm_script.specs.declared.command.LineError.TheVariants as lines
+use Rattle.evm_model.specs.Files.{no_files}
 use Rattle.evm_model.specs.Scene.{Scene}
 use Rattle.evm_model.specs.Replies.{Empty, reply_text}
-use Rattle.evm_model.specs.Steps.{turn_of, line_turn, step, stays}
-use Rattle.evm_session.specs.declared.refusals.Refusal.{Refusal}
-use Rattle.evm_session.specs.Refusals.{of_line_error}
+use Rattle.evm_model.specs.Steps.{turn_of, line_turn, step, stays, of_line, command_fetches, command_asks, fetches, asks}
 use Rattle.evm_session.specs.Carried.{Carries}
-use Rattle.evm_session.proofs.Rows.{extends_itself}
+use Rattle.evm_session.specs.Requests.{Request, request_of, line_request}
 use Rattle.evm_session.proofs.Turns.{carried}
 
 append_nil : (xs : List ℕ) → xs ++ [] ≡ xs
@@ -19,20 +17,19 @@ append_nil [] = refl
 append_nil (x ∷ xs) = ap (λ (ys : List ℕ). x ∷ ys) (append_nil xs)
 
 -- a blank line has the empty reply
-pub blank : (scene : Scene) (before : List ℕ) → Carries (Ok tt) scene scene before before (turn_of scene commands.Blank)
+pub blank : (scene : Scene) (before : List ℕ) → Carries (Ok tt) scene scene before before (turn_of no_files scene commands.Blank)
 unfolding reply_text
 blank scene before = carried scene scene before before Empty (stays scene Empty) refl (sym (append_nil before)) refl
 
-pub step_of : (scene : Scene) (line : List ℕ) (r : Result Command LineError) → command line ≡ r → step scene line ≡ line_turn scene r
-unfolding step
-step_of scene line r e = ap (line_turn scene) e
+-- what a line asks that was read so
+abbrev pub read_request : Scene → Result Command LineError → Request
+read_request scene read =
+    record { turns = λ fetched. line_turn fetched scene read; fetches = of_line (command_fetches scene) read; asks = of_line (command_asks scene) read }
 
-by_error : (e : LineError) (scene : Scene) (before line : List ℕ) → Reads (Err e) (command line) → Carries (Err (of_line_error e)) scene scene before before (step scene line)
-by_error lines.Long scene before line h = (step_of scene line (Err lines.Long) h, refl, refl)
-by_error lines.Syntax scene before line h = (step_of scene line (Err lines.Syntax) h, refl, refl)
-by_error lines.NoMemory scene before line h = (tt, extends_itself before, refl)
+pub request_read : (scene : Scene) (line : List ℕ) (r : Result Command LineError) → command line ≡ r → line_request scene line ≡ read_request scene r
+unfolding step fetches asks
+request_read scene line r e = ap (read_request scene) e
 
--- a line that is no command is refused
-pub no_command : (refusal : Refusal) (e : LineError) (scene : Scene) (before line : List ℕ) → refusal ≡ of_line_error e → Reads (Err e) (command line) → Carries (Err refusal) scene scene before before (step scene line)
-no_command refusal e scene before line f h =
-    subst (λ (y : Refusal). Carries (Err y) scene scene before before (step scene line)) (sym f) (by_error e scene before line h)
+-- a line that is a command asks what the command does
+pub request_of_line : (scene : Scene) (line : List ℕ) (c : Command) → command line ≡ Ok c → line_request scene line ≡ request_of scene c
+request_of_line scene line c e = request_read scene line (Ok c) e

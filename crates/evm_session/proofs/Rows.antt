@@ -5,7 +5,7 @@ use Rattle.std.proofs.lemmas.Bool.{false≢true}
 use Rattle.std.proofs.lemmas.List.{append_assoc, take_more, take_at, take-take, take-append-drop, length-append}
 use Rattle.std.proofs.Math.Seq.{take-length}
 use Rattle.std.proofs.lemmas.Grind.{flat_map-append}
-use Rattle.evm_model.specs.Replies.{Changed, Shown, line_of, spaced, rows_text, reply_text}
+use Rattle.evm_model.specs.Replies.{Changed, Measured, Shown, line_of, spaced, rows_text, reply_text}
 use Rattle.evm_model.specs.Figures.{vertices_in}
 use Rattle.evm_cells.specs.Vertices.{evm, cells}
 use Rattle.evm_scene.specs.Tables.{figure_of}
@@ -103,5 +103,11 @@ says_shown v r dim count before a b c d header now vertices n k ea eb ec ed eh h
 pub changed_said : (n : ℕ) (before a b now : List ℕ) → a ≡ before ++ codes "ok " → b ≡ a ++ decimal n → now ≡ b ++ 10 ∷ [] → now ≡ before ++ reply_text (Changed n)
 unfolding reply_text
 changed_said n before a b now ea eb en =
+    en ∙ ap (λ (t : List ℕ). t ++ 10 ∷ []) (eb ∙ ap (λ (t : List ℕ). t ++ decimal n) ea)
+    ∙ simp append_assoc
+
+pub measured_said : (n : ℕ) (before a b now : List ℕ) → a ≡ before ++ codes "ok " → b ≡ a ++ decimal n → now ≡ b ++ 10 ∷ [] → now ≡ before ++ reply_text (Measured n)
+unfolding reply_text
+measured_said n before a b now ea eb en =
     en ∙ ap (λ (t : List ℕ). t ++ 10 ∷ []) (eb ∙ ap (λ (t : List ℕ). t ++ decimal n) ea)
     ∙ simp append_assoc

@@ -1,5 +1,5 @@
 -- Sections and projections, as the model states them.
-use Rattle.std.proofs.Common.{◌≡◌, ℕ, ◌<◌, ◌≤◌, Bool, true, false, not, ◌&&◌, ◌-◌, List, [], ◌∷◌, Option, Some, None, ℤ, pos, neg_ℤ, ◌-ℤ◌, ◌≤ℤ◌, int_le, int_lt, nat_abs, is_some, refl, ap, ◌∙◌, sym, arith}
+use Rattle.std.proofs.Common.{◌≡◌, ℕ, ◌≤◌, Bool, true, not, ◌&&◌, ◌-◌, List, [], ◌∷◌, Option, Some, None, ℤ, pos, neg_ℤ, ◌-ℤ◌, ◌≤ℤ◌, int_le, nat_abs, is_some, refl, ap, ◌∙◌, sym, arith}
 use Rattle.std.proofs.lemmas.Bool.{false≢true}
 use Rattle.std.proofs.lemmas.Int.{ints}
 use Rattle.evm_cells.specs.Limits.{limit, is_cell_coord}
@@ -7,11 +7,11 @@ use Rattle.evm_cells.specs.Sections.{slice}
 use Rattle.evm_cells.specs.Shapes.{proj}
 use Rattle.evm_cells.specs.Vertices.{cells}
 use Rattle.evm_cells.proofs.Coords.{le_is}
-use Rattle.evm_cells.proofs.Xor.{and_first}
+use Rattle.evm_cells.proofs.Xor.{and_first, and_second}
 use Rattle.evm_rows.specs.Rows.{Vertices}
 use Rattle.evm_model.specs.Figures.{Figure, slice_of, proj_of}
 use Rattle.evm_model.specs.Scene.{Scene, Entry, entry_of, stands, dim_of, dim_of_entry, is_axis, is_dim, IsWell}
-use Rattle.evm_model.specs.Edits.{Code, Name, Dim, Range, first_cause, section_causes, axis_causes}
+use Rattle.evm_model.specs.Edits.{Name, Dim, Range, first_cause, section_causes, axis_causes}
 use Rattle.evm_model.specs.Replies.{Reply}
 use Rattle.evm_model.specs.Steps.{asked, stays, unless_refused}
 use Rattle.evm_model.proofs.Lookups.{found_passes}
@@ -19,16 +19,27 @@ use Rattle.evm_scene.specs.Tables.{figure_of}
 use Rattle.evm_session.specs.Numbers.{is_between}
 use Rattle.evm_session.proofs.Answering.{below_next}
 
--- a name that stands has two dimensions at least
-pub deep_enough : (scene : Scene) (name : List ℕ) → IsWell scene → stands scene name ≡ true → 2 ≤ dim_of scene name
-deep_enough scene name well s = by_entry (entry_of scene.entries name) refl s
+-- a name that stands has a dimension of named solids
+stood_dim : (scene : Scene) (name : List ℕ) → IsWell scene → stands scene name ≡ true → is_dim (pos (dim_of scene name)) ≡ true
+stood_dim scene name well s = by_entry (entry_of scene.entries name) refl s
   where
-    by_entry : (o : Option Entry) → entry_of scene.entries name ≡ o → is_some o ≡ true → 2 ≤ dim_of_entry o
+    by_entry : (o : Option Entry) → entry_of scene.entries name ≡ o → is_some o ≡ true → is_dim (pos (dim_of_entry o)) ≡ true
     by_entry None e h = absurd (false≢true h)
-    by_entry (Some x) e h =
-        let dim : is_dim (pos x.dim) ≡ true = found_passes (λ (y : Entry). is_dim (pos y.dim)) scene.entries name x e well.dims in
-        let low : pos 2 ≤ℤ pos x.dim = le_is (pos 2) (pos x.dim) (and_first (int_le (pos 2) (pos x.dim)) (int_le (pos x.dim) (pos 6)) dim) in
-        omega (arith, ints, low)
+    by_entry (Some x) e h = found_passes (λ (y : Entry). is_dim (pos y.dim)) scene.entries name x e well.dims
+
+-- two at least
+pub deep_enough : (scene : Scene) (name : List ℕ) → IsWell scene → stands scene name ≡ true → 2 ≤ dim_of scene name
+deep_enough scene name well s =
+    let n = dim_of scene name in
+    let low : pos 2 ≤ℤ pos n = le_is (pos 2) (pos n) (and_first (int_le (pos 2) (pos n)) (int_le (pos n) (pos 6)) (stood_dim scene name well s)) in
+    omega (arith, ints, low)
+
+-- six at most
+pub shallow_enough : (scene : Scene) (name : List ℕ) → IsWell scene → stands scene name ≡ true → dim_of scene name ≤ 6
+shallow_enough scene name well s =
+    let n = dim_of scene name in
+    let high : pos n ≤ℤ pos 6 = le_is (pos n) (pos 6) (and_second (int_le (pos 2) (pos n)) (int_le (pos n) (pos 6)) (stood_dim scene name well s)) in
+    omega (arith, ints, high)
 
 -- a height between the limits of cells
 pub between_heights : (n : ℕ) (x low high : ℤ) → low ≡ neg_ℤ (pos (limit n)) → high ≡ pos (limit n) -ℤ pos 1 → is_between low high x ≡ is_cell_coord n x

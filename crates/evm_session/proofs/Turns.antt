@@ -1,21 +1,15 @@
 -- Turns of a scene: what is refused, and what is done.
-use Rattle.std.proofs.Common.{◌≡◌, ℕ, ◌==◌, Bool, true, false, not, List, [], ◌∷◌, ◌++◌, length, Option, Some, None, Result, Ok, Err, IsErrAnd, ℤ, refl, sym, ap, ◌∙◌, subst}
+use Rattle.std.proofs.Common.{◌≡◌, ℕ, ◌==◌, Bool, true, false, not, List, [], ◌∷◌, ◌++◌, length, None, Ok, ℤ, sym, ap, ◌∙◌}
 use Rattle.std.specs.List.{list_all}
 use Rattle.evm_model.specs.Scene.{Scene, stands, dim_of}
-use Rattle.evm_model.specs.Edits.{Edit, Code, Name, Dim, Range, first_cause, name_causes, place_causes, refusal, after}
-use Rattle.evm_model.specs.Replies.{Reply, No, Changed, reply_text, is_no}
-use Rattle.evm_model.specs.Steps.{Turn, stays, unless_refused, edited, asked}
-use Rattle.evm_scene.specs.Applied.{Applies}
-use Rattle.evm_scene.specs.declared.edit.Refusal.{Refusal as SceneRefusal}
-use Rattle.evm_scene.specs.declared.edit.Refusal.TheVariants as edits
-use Rattle.evm_session.specs.declared.refusals.Refusal.{Refusal}
-use Rattle.evm_session.specs.Refusals.{of_scene_refusal}
+use Rattle.evm_model.specs.Edits.{Name, Dim, Range, first_cause, name_causes, place_causes}
+use Rattle.evm_model.specs.Replies.{Reply, reply_text, is_no}
+use Rattle.evm_model.specs.Steps.{Turn, stays, unless_refused, asked}
 use Rattle.evm_session.specs.Carried.{Carries}
-use Rattle.evm_session.proofs.Rows.{extends_by}
 
--- a turn's reply and scene
+-- a reply and a scene, where no file is placed
 abbrev pub turn_with : Reply → Scene → Turn
-turn_with reply scene = record { reply = reply; scene = scene }
+turn_with reply scene = record { reply = reply; scene = scene; placed = None }
 
 pub carried : (old new : Scene) (before now : List ℕ) (reply : Reply) (turn : Turn) → turn ≡ turn_with reply new → now ≡ before ++ reply_text reply → is_no reply ≡ false → Carries (Ok tt) old new before now turn
 carried old new before now reply turn e t n = (

@@ -5,3 +5,5 @@ pub mod Refusals
 pub mod Questions
 pub mod Listed
 pub mod Carried
+pub mod Requests
+pub mod Loads

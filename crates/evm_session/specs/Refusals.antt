@@ -1,11 +1,21 @@
 -- Refusals, by their codes and by the errors of the crates below.
 use Rattle.evm_script.specs.declared.command.LineError.{LineError}
 use Rattle.evm_script.specs.declared.command.LineError.TheVariants as lines
+use Rattle.evm_outside.specs.declared.shelf.FetchError.{FetchError}
+use Rattle.evm_outside.specs.declared.shelf.FetchError.TheVariants as fetching
+use Rattle.evm_outside.specs.declared.shelf.PlaceError.{PlaceError}
+use Rattle.evm_outside.specs.declared.shelf.PlaceError.TheVariants as placing
+use Rattle.evm_file.specs.declared.FileError.{FileError}
+use Rattle.evm_file.specs.declared.FileError.TheVariants as files
+use Rattle.evm_boxes.specs.declared.BoxFileError.{BoxFileError}
+use Rattle.evm_boxes.specs.declared.BoxFileError.TheVariants as boxes
+use Rattle.evm_voxels.specs.declared.error.VoxelError.{VoxelError}
+use Rattle.evm_voxels.specs.declared.error.VoxelError.TheVariants as voxels
 use Rattle.evm_model.specs.Edits as codes
 use Rattle.evm_scene.specs.declared.edit.Refusal.{Refusal as SceneRefusal}
 use Rattle.evm_scene.specs.declared.edit.Refusal.TheVariants as edits
 use Rattle.evm_session.specs.declared.refusals.Refusal.{Refusal}
-use Rattle.evm_session.specs.declared.refusals.Refusal.TheVariants.{Line, Syntax, Name, Taken, Kind, Used, Cycle, Dim, Range, NoMemory}
+use Rattle.evm_session.specs.declared.refusals.Refusal.TheVariants.{Line, Syntax, Name, Taken, Kind, Used, Cycle, Dim, Range, Missing, Shelf, Form, NoMemory}
 
 -- the code of a refusal
 abbrev pub code_of : Refusal → codes.Code
@@ -18,6 +28,9 @@ code_of Used = codes.Used
 code_of Cycle = codes.Cycle
 code_of Dim = codes.Dim
 code_of Range = codes.Range
+code_of Missing = codes.Missing
+code_of Shelf = codes.Shelf
+code_of Form = codes.Form
 code_of NoMemory = codes.Memory
 
 -- where a line is no command
@@ -36,3 +49,27 @@ of_scene_refusal edits.Cycle = Cycle
 of_scene_refusal edits.Dim = Dim
 of_scene_refusal edits.Range = Range
 of_scene_refusal edits.NoMemory = NoMemory
+
+-- where no file was fetched
+abbrev pub of_fetch_error : FetchError → Refusal
+of_fetch_error fetching.Missing = Missing
+of_fetch_error fetching.Failed = Shelf
+of_fetch_error fetching.NoMemory = NoMemory
+
+-- where no file was placed
+abbrev pub of_place_error : PlaceError → Refusal
+of_place_error placing.Failed = Shelf
+of_place_error placing.NoMemory = NoMemory
+
+-- where bytes are not the file of a solid, no file of boxes, or no images
+abbrev pub of_file_error : FileError → Refusal
+of_file_error files.NoMemory = NoMemory
+of_file_error e = Form
+
+abbrev pub of_box_file_error : BoxFileError → Refusal
+of_box_file_error boxes.NoMemory = NoMemory
+of_box_file_error e = Form
+
+abbrev pub of_voxel_error : VoxelError → Refusal
+of_voxel_error voxels.NoMemory = NoMemory
+of_voxel_error e = Form

@@ -1,28 +1,33 @@
 //! Carries out the command of a line, and says why a line is refused.
 
-ghost use Rattle.std.specs.Prelude.{◌≡◌};
-ghost use Rattle.evm_model.specs.Steps.{step, turn_of};
-ghost use Rattle.evm_session.specs.Answers.{Answers};
+ghost use Rattle.std.specs.Prelude.{◌≡◌, false};
+ghost use Rattle.evm_model.specs.Files.{no_files};
+ghost use Rattle.evm_model.specs.Steps.{turn_of};
+ghost use Rattle.evm_session.specs.Answers.{Answers, shelf_view};
 ghost use Rattle.evm_session.specs.Carried.{Carries};
+ghost use Rattle.evm_session.specs.Requests.{names_file, request_of, line_request, CarriesOver};
 
 use super::edits::{edit, edit_name};
+use super::files::{load, save};
 use super::lists::list;
 use super::questions::{at, boundary, content, point, show};
 use super::refusals::Refusal;
 use super::sections::{project, section};
+use evm_outside::Shelf;
 use evm_rows::NoMemory;
 use evm_scene::{Edit, Scene};
 use evm_script::{Command, read_line};
 use std::alloc::Global;
 
-/// Carries out a command.
-fn carry_out(
+/// Carries out a command that names no file.
+fn carry_out_alone(
     scene: &mut Scene,
     alloc: Global,
     command: &Command,
     out: &mut Vec<u8>,
 ) -> Result<(), Refusal>
-    ensures { Carries result scene.old scene.new out.old.items out.new.items (turn_of scene.old command.now) }
+    requires { names_file command.now ≡ false }
+    ensures { Carries result scene.old scene.new out.old.items out.new.items (turn_of no_files scene.old command.now) }
 {
     match *command {
         Command::Blank => Ok(()),
@@ -40,35 +45,55 @@ fn carry_out(
         Command::Point { name, nums } => point(scene, &name, &nums, out),
         Command::Section { name, axis, at } => section(scene, alloc, &name, &axis, &at, out),
         Command::Project { name, axis } => project(scene, alloc, &name, &axis, out),
+        Command::Load { .. } | Command::Save { .. } => unreachable!(),
+    }
+}
+
+/// Carries out a command.
+fn carry_out<S: Shelf>(
+    scene: &mut Scene,
+    alloc: Global,
+    command: &Command,
+    shelf: &mut S,
+    out: &mut Vec<u8>,
+) -> Result<(), Refusal>
+    ensures { CarriesOver result scene.old scene.new out.old.items out.new.items (shelf_view (S.files shelf.old) (S.faults shelf.old) (S.misses shelf.old)) (shelf_view (S.files shelf.new) (S.faults shelf.new) (S.misses shelf.new)) (request_of scene.old command.now) }
+{
+    match *command {
+        Command::Load { name, form, file } => load(scene, alloc, name, &form, &file, shelf, out),
+        Command::Save { name, form, file } => save(scene, alloc, &name, &form, &file, shelf, out),
+        _ => carry_out_alone(scene, alloc, command, out),
     }
 }
 
 /// Carries out the command of a line.
-fn carry_out_line(
+fn carry_out_line<S: Shelf>(
     scene: &mut Scene,
     alloc: Global,
     line: &[u8],
+    shelf: &mut S,
     out: &mut Vec<u8>,
 ) -> Result<(), Refusal>
-    ensures { Carries result scene.old scene.new out.old.items out.new.items (step scene.old line.now) }
+    ensures { CarriesOver result scene.old scene.new out.old.items out.new.items (shelf_view (S.files shelf.old) (S.faults shelf.old) (S.misses shelf.old)) (shelf_view (S.files shelf.new) (S.faults shelf.new) (S.misses shelf.new)) (line_request scene.old line.now) }
 {
     match read_line(alloc, line) {
-        Ok(command) => carry_out(scene, alloc, &command, out),
+        Ok(command) => carry_out(scene, alloc, &command, shelf, out),
         Err(error) => Err(Refusal::from(error)),
     }
 }
 
 /// Appends the reply to a line, and answers whether the line was not refused.
-pub fn answer(
+pub fn answer<S: Shelf>(
     scene: &mut Scene,
     alloc: Global,
     line: &[u8],
+    shelf: &mut S,
     out: &mut Vec<u8>,
 ) -> Result<bool, NoMemory>
-    ensures { Answers result scene.old scene.new out.old.items out.new.items (step scene.old line.now) }
+    ensures { Answers result line.now scene.old scene.new out.old.items out.new.items (shelf_view (S.files shelf.old) (S.faults shelf.old) (S.misses shelf.old)) (shelf_view (S.files shelf.new) (S.faults shelf.new) (S.misses shelf.new)) }
 {
     let before = out.len();
-    match carry_out_line(scene, alloc, line, out) {
+    match carry_out_line(scene, alloc, line, shelf, out) {
         Ok(()) => Ok(true),
         Err(Refusal::NoMemory) => {
             out.truncate(before);

@@ -8,7 +8,7 @@ ghost use Rattle.evm_scene.specs.Applied.{edit_view};
 ghost use Rattle.evm_session.specs.Carried.{Carries};
 
 use super::refusals::Refusal;
-use super::replies::{put_changed, reserve_changed};
+use super::replies::{put_number, reserve_number};
 use evm_scene::{Edit, Scene};
 use std::alloc::Global;
 
@@ -17,9 +17,9 @@ use std::alloc::Global;
 pub fn edit(scene: &mut Scene, alloc: Global, edit: Edit, out: &mut Vec<u8>) -> Result<(), Refusal>
     ensures { Carries result scene.old scene.new out.old.items out.new.items (edited scene.old (edit_view edit) (Changed (changed scene.old (edit_view edit)))) }
 {
-    reserve_changed(out)?;
+    reserve_number(out)?;
     let done = scene.apply(alloc, edit)?;
-    put_changed(out, done.names);
+    put_number(out, done.names);
     Ok(())
 }
 
@@ -32,8 +32,8 @@ pub fn edit_name(
 ) -> Result<(), Refusal>
     ensures { Carries result scene.old scene.new out.old.items out.new.items (edited scene.old (edit_view edit) (Changed 0)) }
 {
-    reserve_changed(out)?;
+    reserve_number(out)?;
     scene.apply(alloc, edit)?;
-    put_changed(out, 0);
+    put_number(out, 0);
     Ok(())
 }

@@ -1,36 +1,39 @@
-//! A session: answers the lines of a script, one after another.
+//! A session: answers the lines of a script, one after another, over a shelf of files.
 //!
 //! A session holds a scene: names of solids of 2 to 6 dimensions, each an input or a formula over other names. `input` makes an
-//! input without cells, `toggle`, `add` and `cut` change one by a box, `def` makes or changes a formula, and `drop` takes a name
-//! out. `show`, `section`, `project`, `content`, `boundary`, `at` and `point` ask about one name, and `list` about all. The contracts speak of a
-//! session as a scene of `evm_model`, whose `step` says for each scene and line what the reply is and what the scene is after
-//! it: the vertices, measures and places there are those of sets of unit cells.
+//! input without cells, `toggle`, `add` and `cut` change one by a box, `load` puts the cells that a file states in place of its
+//! own, `def` makes or changes a formula, and `drop` takes a name out. `save` places the solid of a name as a file. `show`,
+//! `section`, `project`, `content`, `boundary`, `at` and `point` ask about one name, and `list` about all. The contracts speak of
+//! a session as a scene of `evm_model`, whose `answer` says for each scene, files and line what the reply is and what scene and
+//! files are after it: the vertices, measures and places there are those of sets of unit cells.
 //!
 //! The scene keeps the solid of each name. So a question copies no solid, and an edit of a name carries its change through the
-//! names that read it, by formulas of formulas too, and through no other. All that can fail comes before a session changes: an
-//! edit's reply has its room before the scene makes the edit. A line takes memory for its words, for the solids that its edit
-//! makes anew or what its question counts with, and for its reply: at most 8 bytes a coordinate of `show`, and about 250 bytes
-//! a name of `list`.
+//! names that read it, by formulas of formulas too, and through no other. All that can fail comes before a session or a file
+//! changes: the reply to an edit or a save has its room before the scene makes the edit or the shelf places the file. A line takes
+//! memory for its words, for the file that it loads or saves, for the solids that its edit makes anew or what its question counts
+//! with, and for its reply: at most 8 bytes a coordinate of `show`, and about 250 bytes a name of `list`.
 #![tactic(auto)]
 
 ghost use Rattle.std.specs.Prelude.{◌≡◌, IfOk};
 ghost use Rattle.evm_model.specs.Scene.{start};
-ghost use Rattle.evm_model.specs.Steps.{step};
-ghost use Rattle.evm_session.specs.Answers.{Answers};
+ghost use Rattle.evm_session.specs.Answers.{Answers, shelf_view};
 
 use std::alloc::Global;
 use std::marker::Model;
 
 mod answers;
 mod edits;
+mod files;
 mod lists;
 mod numbers;
 mod questions;
+mod readers;
 mod refusals;
 mod replies;
 mod sections;
 
 use answers::answer;
+use evm_outside::Shelf;
 pub use evm_rows::NoMemory;
 use evm_scene::Scene;
 
@@ -59,19 +62,22 @@ impl Session {
     }
 
     /// Appends the reply to a line, which is without its LF, to `out`, and answers whether the reply does not begin with `no`.
+    /// A line may load a file of `shelf` or save one there.
     ///
-    /// The reply and the session afterwards are those of `step`. A line that is too long, is no command or is refused by its
-    /// first cause has the reply `no CODE` and leaves the session. The one error is want of memory: after it the session and
-    /// `out` are as before.
-    pub fn answer(
+    /// The reply, the session and told files afterwards are those of the model's `answer`. A line that is too long, is no command
+    /// or is refused by its first cause has the reply `no CODE` and leaves session and files. `no shelf` comes only where the line
+    /// asks the shelf and the shelf's count of faults rose, and `no missing` only where its count of misses rose; else the counts
+    /// stay. The one error is want of memory: after it the session, told files and `out` are as before, and no count is lower.
+    pub fn answer<S: Shelf>(
         &mut self,
         alloc: Global,
         line: &[u8],
+        shelf: &mut S,
         out: &mut Vec<u8>,
     ) -> Result<bool, NoMemory>
-        ensures { Answers result self.old self.new out.old.items out.new.items (step self.old line.now) }
+        ensures { Answers result line.now self.old self.new out.old.items out.new.items (shelf_view (S.files shelf.old) (S.faults shelf.old) (S.misses shelf.old)) (shelf_view (S.files shelf.new) (S.faults shelf.new) (S.misses shelf.new)) }
     {
-        answer(&mut self.scene, alloc, line, out)
+        answer(&mut self.scene, alloc, line, shelf, out)
     }
 }
 

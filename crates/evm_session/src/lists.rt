@@ -4,6 +4,7 @@ ghost use Rattle.std.specs.Prelude.{◌≡◌, option_map};
 ghost use Rattle.evm_script.specs.Printed.{spaced, formula_words};
 ghost use Rattle.evm_model.specs.Scene.{entry_of};
 ghost use Rattle.evm_model.specs.Replies.{entries_text};
+ghost use Rattle.evm_model.specs.Files.{no_files};
 ghost use Rattle.evm_model.specs.Steps.{turn_of};
 ghost use Rattle.evm_scene.specs.Shown.{formula_of};
 ghost use Rattle.evm_session.specs.Carried.{Carries};
@@ -20,7 +21,7 @@ use std::alloc::Global;
 
 /// The number of names, and for each in the order of their making a line: the name, its dimension, and `input` or its formula.
 pub fn list(scene: &Scene, alloc: Global, out: &mut Vec<u8>) -> Result<(), Refusal>
-    ensures { Carries result scene.now scene.now out.old.items out.new.items (turn_of scene.now commands.List) }
+    ensures { Carries result scene.now scene.now out.old.items out.new.items (turn_of no_files scene.now commands.List) }
 {
     say_number(out, scene.count() as u128)?;
     say_entries(scene, alloc, out)?;

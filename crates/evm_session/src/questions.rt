@@ -1,6 +1,7 @@
 //! Questions about the solid of a name.
 
 ghost use Rattle.std.specs.Prelude.{◌≡◌};
+ghost use Rattle.evm_model.specs.Files.{no_files};
 ghost use Rattle.evm_model.specs.Steps.{turn_of};
 ghost use Rattle.evm_session.specs.Carried.{Carries};
 ghost use Rattle.evm_session.specs.Questions.{filled_text, placed_text};
@@ -18,7 +19,7 @@ use std::alloc::Global;
 
 /// The extreme vertices.
 pub fn show(scene: &Scene, name: &Name, out: &mut Vec<u8>) -> Result<(), Refusal>
-    ensures { Carries result scene.now scene.now out.old.items out.new.items (turn_of scene.now (commands.Show name.now)) }
+    ensures { Carries result scene.now scene.now out.old.items out.new.items (turn_of no_files scene.now (commands.Show name.now)) }
 {
     let Some(solid) = scene.kept(name) else {
         return Err(Refusal::Name);
@@ -29,7 +30,7 @@ pub fn show(scene: &Scene, name: &Name, out: &mut Vec<u8>) -> Result<(), Refusal
 
 /// The number of cells.
 pub fn content(scene: &Scene, alloc: Global, name: &Name, out: &mut Vec<u8>) -> Result<(), Refusal>
-    ensures { Carries result scene.now scene.now out.old.items out.new.items (turn_of scene.now (commands.Content name.now)) }
+    ensures { Carries result scene.now scene.now out.old.items out.new.items (turn_of no_files scene.now (commands.Content name.now)) }
 {
     let Some(solid) = scene.kept(name) else {
         return Err(Refusal::Name);
@@ -41,7 +42,7 @@ pub fn content(scene: &Scene, alloc: Global, name: &Name, out: &mut Vec<u8>) -> 
 
 /// The number of faces between a cell and a place that is no cell.
 pub fn boundary(scene: &Scene, alloc: Global, name: &Name, out: &mut Vec<u8>) -> Result<(), Refusal>
-    ensures { Carries result scene.now scene.now out.old.items out.new.items (turn_of scene.now (commands.Boundary name.now)) }
+    ensures { Carries result scene.now scene.now out.old.items out.new.items (turn_of no_files scene.now (commands.Boundary name.now)) }
 {
     let Some(solid) = scene.kept(name) else {
         return Err(Refusal::Name);
@@ -53,7 +54,7 @@ pub fn boundary(scene: &Scene, alloc: Global, name: &Name, out: &mut Vec<u8>) ->
 
 /// Whether a cell is filled.
 pub fn at(scene: &Scene, name: &Name, nums: &Nums, out: &mut Vec<u8>) -> Result<(), Refusal>
-    ensures { Carries result scene.now scene.now out.old.items out.new.items (turn_of scene.now (commands.At name.now nums.now)) }
+    ensures { Carries result scene.now scene.now out.old.items out.new.items (turn_of no_files scene.now (commands.At name.now nums.now)) }
 {
     let Some(solid) = scene.kept(name) else {
         return Err(Refusal::Name);
@@ -86,7 +87,7 @@ fn filled_text(filled: bool) -> &'static [u8]
 
 /// Where a point stands.
 pub fn point(scene: &Scene, name: &Name, nums: &Nums, out: &mut Vec<u8>) -> Result<(), Refusal>
-    ensures { Carries result scene.now scene.now out.old.items out.new.items (turn_of scene.now (commands.Point name.now nums.now)) }
+    ensures { Carries result scene.now scene.now out.old.items out.new.items (turn_of no_files scene.now (commands.Point name.now nums.now)) }
 {
     let Some(solid) = scene.kept(name) else {
         return Err(Refusal::Name);

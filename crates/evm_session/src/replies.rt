@@ -2,7 +2,7 @@
 
 ghost use Rattle.std.specs.Prelude.{◌≡◌, ◌++◌, ◌∷◌, [], ◌+◌, ◌<◌, ◌≤◌, codes, decimal, length, OnOk, vec_len, vec_capacity};
 ghost use Rattle.std.specs.Fmt.{signed_decimal};
-ghost use Rattle.evm_model.specs.Replies.{line_of, spaced, rows_text, reply_text, Changed, Shown};
+ghost use Rattle.evm_model.specs.Replies.{line_of, spaced, rows_text, reply_text, Changed, Measured, Shown};
 ghost use Rattle.evm_rows.specs.View.{vertices_of};
 ghost use Rattle.evm_scene.specs.Tables.{figure_of};
 ghost use Rattle.evm_session.specs.Says.{Says, behind_spaces};
@@ -43,15 +43,15 @@ pub fn say_number(out: &mut Vec<u8>, n: u128) -> Result<(), NoMemory>
     say(out, b"\n")
 }
 
-/// The most bytes of the reply to an edit: `ok `, 20 digits and LF.
-const CHANGED_BYTES: usize = 24;
+/// The most bytes of the reply `ok N` for a number of 64 bits: `ok `, 20 digits and LF.
+const NUMBER_BYTES: usize = 24;
 
-/// Reserves the room for the reply to an edit.
-pub fn reserve_changed(out: &mut Vec<u8>) -> Result<(), NoMemory>
+/// Reserves the room for the reply `ok N`.
+pub fn reserve_number(out: &mut Vec<u8>) -> Result<(), NoMemory>
     ensures items { out.new.items ≡ out.old.items }
-    ensures room { OnOk result (vec_len out.new + CHANGED_BYTES ≤ vec_capacity out.new) }
+    ensures room { OnOk result (vec_len out.new + NUMBER_BYTES ≤ vec_capacity out.new) }
 {
-    out.reserve(CHANGED_BYTES)?;
+    out.reserve(NUMBER_BYTES)?;
     Ok(())
 }
 
@@ -67,14 +67,15 @@ fn put(out: &mut Vec<u8>, text: &[u8])
     }
 }
 
-/// Appends the reply to an edit that changed so many names, where its room was reserved. Takes no memory.
-pub fn put_changed(out: &mut Vec<u8>, names: usize)
-    requires { vec_len out.old + CHANGED_BYTES ≤ vec_capacity out.old }
-    ensures { out.new.items ≡ out.old.items ++ reply_text (Changed names) }
+/// Appends the reply `ok N`, where its room was reserved. Takes no memory.
+pub fn put_number(out: &mut Vec<u8>, n: usize)
+    requires { vec_len out.old + NUMBER_BYTES ≤ vec_capacity out.old }
+    ensures changed { out.new.items ≡ out.old.items ++ reply_text (Changed n) }
+    ensures measured { out.new.items ≡ out.old.items ++ reply_text (Measured n) }
 {
     let mut digits = Buffer::new();
     put(out, b"ok ");
-    put(out, digits.format(names).as_bytes());
+    put(out, digits.format(n).as_bytes());
     put(out, b"\n");
 }
 

@@ -3,6 +3,7 @@
 ghost use Rattle.std.specs.Prelude.{◌≡◌, ◌<◌, ◌≤◌, nat_abs, true, false, MatchOption};
 ghost use Rattle.evm_cells.specs.Limits.{is_cell_coord};
 ghost use Rattle.evm_model.specs.Scene.{is_axis};
+ghost use Rattle.evm_model.specs.Files.{no_files};
 ghost use Rattle.evm_model.specs.Steps.{turn_of};
 ghost use Rattle.evm_session.specs.Carried.{Carries};
 ghost use Rattle.evm_script.specs.declared.command.Command.TheVariants as commands;
@@ -48,7 +49,7 @@ pub fn section(
     at: &Num,
     out: &mut Vec<u8>,
 ) -> Result<(), Refusal>
-    ensures { Carries result scene.now scene.now out.old.items out.new.items (turn_of scene.now (commands.Section name.now axis.now at.now)) }
+    ensures { Carries result scene.now scene.now out.old.items out.new.items (turn_of no_files scene.now (commands.Section name.now axis.now at.now)) }
 {
     scene.facts();
     let Some(solid) = scene.kept(name) else {
@@ -75,7 +76,7 @@ pub fn project(
     axis: &Num,
     out: &mut Vec<u8>,
 ) -> Result<(), Refusal>
-    ensures { Carries result scene.now scene.now out.old.items out.new.items (turn_of scene.now (commands.Project name.now axis.now)) }
+    ensures { Carries result scene.now scene.now out.old.items out.new.items (turn_of no_files scene.now (commands.Project name.now axis.now)) }
 {
     scene.facts();
     let Some(solid) = scene.kept(name) else {

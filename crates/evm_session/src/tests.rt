@@ -1,6 +1,7 @@
 //! Sessions, asked by each command and refused by each code, with replies worked out by hand.
 
 use super::Session;
+use evm_outside::MemShelf;
 use std::process::Abort;
 use std::test::Fail;
 
@@ -140,13 +141,33 @@ const SECTIONS: [(&str, &str); 18] = [
     ("project b 2", "ok 1 2\n0\n2\n"),
 ];
 
-/// Asks a new session.
+/// A square that is saved once the shelf does not fail, and loaded into another input; and what is refused of files.
+const FILES: [(&str, &str); 15] = [
+    ("input a 2", "ok 0\n"),
+    ("add a 0 0 2 2", "ok 1\n"),
+    ("save a evm a.evm", "no shelf\n"),
+    ("save a evm a.evm", "ok 48\n"),
+    ("save zz evm a.evm", "no name\n"),
+    ("input b 2", "ok 0\n"),
+    ("def c shift b 524287 0", "ok 0\n"),
+    ("load b evm a.evm", "no range\n"),
+    ("def c or b b", "ok 0\n"),
+    ("load b evm a.evm", "ok 2\n"),
+    ("content c", "ok 4\n"),
+    ("load b evm gone.evm", "no missing\n"),
+    ("load b boxes a.evm", "no form\n"),
+    ("load b pgm 65536 gone.pgm", "no range\n"),
+    ("load c evm a.evm", "no kind\n"),
+];
+
+/// Asks a new session, over a shelf whose first call fails.
 fn answers(rt: &(impl Abort + AllocGlobal), answered: &[(&str, &str)]) -> Result<(), Fail> {
     let mut session = Session::new(rt.alloc())?;
+    let mut shelf = MemShelf::new(rt.alloc(), [0].to_vec(rt.alloc())?);
     let mut out = Vec::new(rt.alloc());
     for (line, reply) in answered {
         out.clear();
-        let fine = session.answer(rt.alloc(), line.as_bytes(), &mut out)?;
+        let fine = session.answer(rt.alloc(), line.as_bytes(), &mut shelf, &mut out)?;
         assert_eq!(rt; out.as_slice(), reply.as_bytes(), "{line}");
         assert_eq!(rt; fine, !reply.starts_with("no"), "{line}");
     }
@@ -177,11 +198,17 @@ fn formulas_are_refused_by_their_first_cause(rt: HostRuntime) -> Result<(), Fail
 }
 
 #[test]
+fn files_are_saved_and_loaded(rt: HostRuntime) -> Result<(), Fail> {
+    answers(&rt, &FILES)
+}
+
+#[test]
 fn a_line_may_be_too_long(rt: HostRuntime) -> Result<(), Fail> {
     let mut session = Session::new(rt.alloc())?;
+    let mut shelf = MemShelf::new(rt.alloc(), Vec::new(rt.alloc()));
     let mut out = Vec::new(rt.alloc());
     let long = vec![in rt.alloc(); b' '; 4097]?;
-    let fine = session.answer(rt.alloc(), long.as_slice(), &mut out)?;
+    let fine = session.answer(rt.alloc(), long.as_slice(), &mut shelf, &mut out)?;
     assert_eq!(rt; out.as_slice(), b"no line\n".as_slice());
     assert_eq!(rt; fine, false);
     Ok(())

@@ -1,14 +1,17 @@
-use Rattle.std.proofs.Common.{sym, subst, Ok}
-use Rattle.evm_model.specs.Steps.{Turn}
-use Rattle.evm_session.specs.Carried.{Carries}
-use Rattle.evm_session.proofs.Lines.{step_of, no_command}
+use Rattle.std.proofs.Common.{sym, subst}
+use Rattle.evm_session.specs.Answers.{shelf_view}
+use Rattle.evm_session.specs.Requests.{Request, CarriesOver}
+use Rattle.evm_session.proofs.Lines.{request_of_line}
+use Rattle.evm_session.proofs.Refused.{no_command}
 use Rattle.evm_session.proofs.answers.carry_out_line.Goals as goal
 
 pub returns-in-Ok : goal.returns-in-Ok
-returns-in-Ok c =
-    subst (λ (t : Turn). Carries c.carry_out.result c.args.scene.now c.carry_out.new.scene c.args.out.now.items c.carry_out.new.out.items t)
-    (sym (step_of c.args.scene.now c.args.line.now (Ok c.in-Ok.command) c.in-Ok.ensures)) c.carry_out.ensures
+returns-in-Ok g c =
+    let shelf = shelf_view (g.S.Shelf.files c.args.shelf.now) (g.S.Shelf.faults c.args.shelf.now) (g.S.Shelf.misses c.args.shelf.now) in
+    let after = shelf_view (g.S.Shelf.files c.carry_out.new.shelf) (g.S.Shelf.faults c.carry_out.new.shelf) (g.S.Shelf.misses c.carry_out.new.shelf) in
+    subst (λ (r : Request). CarriesOver c.carry_out.result c.args.scene.now c.carry_out.new.scene c.args.out.now.items c.carry_out.new.out.items shelf after r)
+    (sym (request_of_line c.args.scene.now c.args.line.now c.in-Ok.command c.in-Ok.ensures)) c.carry_out.ensures
 
 pub returns-in-Err : goal.returns-in-Err
-returns-in-Err c =
-    no_command c.from.result c.in-Err.error c.args.scene.now c.args.out.now.items c.args.line.now c.from.ensures c.in-Err.ensures
+returns-in-Err g c =
+    no_command c.from.result c.in-Err.error c.args.scene.now c.args.out.now.items c.args.line.now _ c.from.ensures c.in-Err.ensures

@@ -1,4 +1,4 @@
-use Rattle.std.proofs.Common.{◌≡◌, ◌++◌, ◌≤◌, ℕ, ℤ, true, nat_abs, to_z, of_z, w32, sym, ◌∙◌, refl, ap, subst, rules}
+use Rattle.std.proofs.Common.{◌≡◌, ◌++◌, ◌≤◌, ℕ, true, nat_abs, to_z, of_z, w32, sym, ◌∙◌, refl, ap, subst, rules}
 use Rattle.evm_rows.specs.Rows.{Vertices}
 use Rattle.evm_rows.specs.View.{vertices_of}
 use Rattle.evm_model.specs.Figures.{Figure, slice_of}

@@ -1,0 +1,213 @@
+-- Loads and saves, as the model states them.
+use Rattle.std.proofs.Common.{◌≡◌, ℕ, ◌==◌, Bool, true, false, not, cond, List, [], ◌∷◌, ◌++◌, Option, Some, None, is_none, Result, Ok, Err, length, ℤ, nat_abs, refl, sym, ap, ◌∙◌, subst}
+use Rattle.std.proofs.lemmas.Bool.Decides.{Decides-eqb}
+use Rattle.evm_outside.specs.Shelves.{Files, KeepsFiles, HasFile, PlacesFile}
+use Rattle.evm_boxes.specs.BoxFile.{file_cells}
+use Rattle.evm_voxels.specs.Pgm.{pgm_cells}
+use Rattle.evm_voxels.specs.Y4m.{y4m_cells}
+use Rattle.evm_script.specs.declared.command.Command.TheVariants as commands
+use Rattle.evm_script.specs.declared.files.LoadForm.{LoadForm}
+use Rattle.evm_script.specs.declared.files.LoadForm.TheVariants as forms
+use Rattle.evm_script.specs.declared.files.SaveForm.{SaveForm}
+use Rattle.evm_model.specs.Figures.{Figure}
+use Rattle.evm_model.specs.Files.{Fetches, figure_in, figure_stated, or_nothing, form_fits, form_in_range, bytes_in}
+use Rattle.evm_model.specs.Scene.{Scene, stands, is_input, dim_of, value}
+use Rattle.evm_model.specs.Edits.{Code, Name, Kind, Dim, Range, Missing, Form, Replace, first_cause, value_causes, after, changed}
+use Rattle.evm_model.specs.Replies.{No, Changed, Measured, reply_text}
+use Rattle.evm_model.specs.Steps.{Turn, stays, unless_refused, edited, load_causes, file_causes, loaded, load_turn, saved}
+use Rattle.evm_session.specs.declared.refusals.Refusal.{Refusal}
+use Rattle.evm_session.specs.declared.refusals.Refusal.TheVariants as refusals
+use Rattle.evm_session.specs.Answers.{ShelfView}
+use Rattle.evm_session.specs.Carried.{Carries, IsRefusalOf, LeavesText}
+use Rattle.evm_session.specs.Loads.{ReadsFigure}
+use Rattle.evm_session.specs.Refusals.{code_of}
+use Rattle.evm_session.specs.Requests.{request_of, IsTurnOf, CarriesOver}
+use Rattle.evm_session.specs.Says.{Extends}
+use Rattle.evm_session.proofs.Rows.{extends_itself}
+use Rattle.evm_session.proofs.Shelved.{code_of_shelf, maybe_of_shelf, quiet_first, quiet_turn, one_turn, fetched_turn, placed_told, placed_files, carried_quiet, carried_alone}
+
+-- ---- causes before the file is fetched
+
+past_four : (a b c d : Bool) (rest : List (Bool × Code)) → first_cause ((a, Name) ∷ (b, Kind) ∷ (c, Dim) ∷ (d, Range) ∷ []) ≡ None
+    → first_cause ((a, Name) ∷ (b, Kind) ∷ (c, Dim) ∷ (d, Range) ∷ rest) ≡ first_cause rest
+past_four true b c d rest h = cc
+past_four false true c d rest h = cc
+past_four false false true d rest h = cc
+past_four false false false true rest h = cc
+past_four false false false false rest h = refl
+
+at_four : (a b c d : Bool) (rest : List (Bool × Code)) (code : Code) → first_cause ((a, Name) ∷ (b, Kind) ∷ (c, Dim) ∷ (d, Range) ∷ []) ≡ Some code
+    → first_cause ((a, Name) ∷ (b, Kind) ∷ (c, Dim) ∷ (d, Range) ∷ rest) ≡ Some code
+at_four true b c d rest code h = h
+at_four false true c d rest code h = h
+at_four false false true d rest code h = h
+at_four false false false true rest code h = h
+at_four false false false false rest code h = cc
+
+none_of_four : (a b c d : Bool) → first_cause ((a, Name) ∷ (b, Kind) ∷ (c, Dim) ∷ (d, Range) ∷ []) ≡ None → (a ≡ false) × (b ≡ false) × (c ≡ false) × (d ≡ false)
+none_of_four true b c d h = cc
+none_of_four false true c d h = cc
+none_of_four false false true d h = cc
+none_of_four false false false true h = cc
+none_of_four false false false false h = (refl, refl, refl, refl)
+
+holds : (b : Bool) → not b ≡ false → b ≡ true
+holds true h = refl
+holds false h = sym h
+
+-- what holds where nothing refuses a load before its file
+pub record IsLoadable (scene : Scene) (name : List ℕ) (form : LoadForm) : Type 0 where
+  pub stand : stands scene name ≡ true
+  pub input : is_input scene name ≡ true
+  pub fits : form_fits form (dim_of scene name) ≡ true
+  pub range : form_in_range form ≡ true
+
+pub loadable : (scene : Scene) (name : List ℕ) (form : LoadForm) → first_cause (load_causes scene name form) ≡ None → IsLoadable scene name form
+loadable scene name form h =
+    let all = none_of_four (not (stands scene name)) (not (is_input scene name)) (not (form_fits form (dim_of scene name))) (not (form_in_range form)) h in record {
+      stand = holds _ all.0;
+      input = holds _ all.1;
+      fits = holds _ all.2;
+      range = holds _ all.3;
+    }
+
+-- ---- by the file
+
+-- the turn of a load by what its fetch gave
+abbrev pub load_by : Scene → List ℕ → LoadForm → List ℕ → Option (List ℕ) → Turn
+load_by scene name form file got = load_turn (λ _. got) scene name form file
+
+-- another figure was put in place
+abbrev pub replaced : Scene → List ℕ → Figure → Turn
+replaced scene name figure = record { reply = Changed (changed scene (Replace name figure)); scene = after scene (Replace name figure); placed = None }
+
+-- refused before the file is fetched
+pub load_refused : (fetched : Fetches) (scene : Scene) (name : List ℕ) (form : LoadForm) (file : List ℕ) (code : Code) → first_cause (load_causes scene name form) ≡ Some code → load_turn fetched scene name form file ≡ stays scene (No code)
+load_refused fetched scene name form file code h =
+    ap (λ (o : Option Code). unless_refused o scene (replaced scene name (loaded fetched scene name form file)))
+    (at_four (not (stands scene name)) (not (is_input scene name)) (not (form_fits form (dim_of scene name))) (not (form_in_range form)) (file_causes fetched scene name form file) code h)
+
+-- nothing refuses before the file
+past_load : (scene : Scene) (name : List ℕ) (form : LoadForm) (file : List ℕ) (got : Option (List ℕ)) → first_cause (load_causes scene name form) ≡ None
+    → load_by scene name form file got ≡ unless_refused (first_cause (file_causes (λ _. got) scene name form file)) scene (replaced scene name (loaded (λ _. got) scene name form file))
+past_load scene name form file got h =
+    ap (λ (o : Option Code). unless_refused o scene (replaced scene name (loaded (λ _. got) scene name form file)))
+    (past_four (not (stands scene name)) (not (is_input scene name)) (not (form_fits form (dim_of scene name))) (not (form_in_range form)) (file_causes (λ _. got) scene name form file) h)
+
+-- there is no file
+pub load_missing : (scene : Scene) (name : List ℕ) (form : LoadForm) (file : List ℕ) → first_cause (load_causes scene name form) ≡ None → load_by scene name form file None ≡ stays scene (No Missing)
+load_missing scene name form file h = past_load scene name form file None h
+
+-- the turn of a load by the figure that its file states
+abbrev pub load_figure : Scene → List ℕ → Option Figure → Turn
+load_figure scene name found =
+    unless_refused (first_cause ((is_none found, Form) ∷ value_causes (after scene (Replace name (or_nothing (dim_of scene name) found))))) scene (replaced scene name (or_nothing (dim_of scene name) found))
+
+-- the bytes of the file state none
+pub load_unread : (scene : Scene) (name : List ℕ) (form : LoadForm) (file bytes : List ℕ) → first_cause (load_causes scene name form) ≡ None → figure_in form (dim_of scene name) bytes ≡ None
+    → load_by scene name form file (Some bytes) ≡ stays scene (No Form)
+load_unread scene name form file bytes h e = past_load scene name form file (Some bytes) h ∙ ap (load_figure scene name) e
+
+dim_or : ℕ → Option Figure → ℕ
+dim_or n None = n
+dim_or n (Some a) = a.dim
+
+dim_stated : {E : Type 0} (n : ℕ) (r : Result (List (List ℤ)) E) → dim_or n (figure_stated n r) ≡ n
+unfolding dim_or
+dim_stated n (Ok cells) = refl
+dim_stated n (Err e) = refl
+
+dim_tested : (n : ℕ) (b : Bool) (a : Figure) → a.dim ≡ n → dim_or n (cond b (Some a) None) ≡ n
+unfolding dim_or
+dim_tested n true a e = e
+dim_tested n false a e = refl
+
+-- the figure that a file states has the dimension that is asked for
+dim_read : (form : LoadForm) (n : ℕ) (bytes : List ℕ) → dim_or n (figure_in form n bytes) ≡ n
+unfolding figure_in
+dim_read forms.Evm n bytes = dim_tested n _ _ refl
+dim_read forms.Boxes n bytes = dim_stated n (file_cells n bytes)
+dim_read (forms.Pgm threshold) n bytes = dim_stated n (pgm_cells n (nat_abs threshold) bytes)
+dim_read (forms.Y4m threshold) n bytes = dim_stated n (y4m_cells n (nat_abs threshold) bytes)
+
+dim_found : (form : LoadForm) (n : ℕ) (bytes : List ℕ) (a : Figure) → figure_in form n bytes ≡ Some a → a.dim ≡ n
+unfolding dim_or
+dim_found form n bytes a e = sym (ap (dim_or n) e) ∙ dim_read form n bytes
+
+-- the figure of an input's dimension that is put in its place is refused by values alone
+replaced_by : (scene : Scene) (name : List ℕ) (a : Figure) → stands scene name ≡ true → is_input scene name ≡ true → a.dim ≡ dim_of scene name
+    → edited scene (Replace name a) (Changed (changed scene (Replace name a))) ≡ load_figure scene name (Some a)
+replaced_by scene name a s i d =
+    let values = value_causes (after scene (Replace name a)) in
+    let turn = replaced scene name a in
+    let same : (a.dim == dim_of scene name) ≡ true = (Decides-eqb a.dim (dim_of scene name)).1 d in
+    ap (λ (b : Bool). unless_refused (first_cause ((not b, Name) ∷ (not (is_input scene name), Kind) ∷ (not (a.dim == dim_of scene name), Dim) ∷ values)) scene turn) s
+    ∙ ap (λ (b : Bool). unless_refused (first_cause ((not b, Kind) ∷ (not (a.dim == dim_of scene name), Dim) ∷ values)) scene turn) i
+    ∙ ap (λ (b : Bool). unless_refused (first_cause ((not b, Dim) ∷ values)) scene turn) same
+
+-- the bytes of the file state a figure, which is put in place
+pub load_edits : (scene : Scene) (name : List ℕ) (form : LoadForm) (file bytes : List ℕ) (a : Figure) → first_cause (load_causes scene name form) ≡ None → figure_in form (dim_of scene name) bytes ≡ Some a
+    → edited scene (Replace name a) (Changed (changed scene (Replace name a))) ≡ load_by scene name form file (Some bytes)
+load_edits scene name form file bytes a h e =
+    let all = loadable scene name form h in
+    replaced_by scene name a all.stand all.input (dim_found form (dim_of scene name) bytes a e)
+    ∙ sym (past_load scene name form file (Some bytes) h ∙ ap (load_figure scene name) e)
+
+-- ---- over the shelf
+
+-- a refusal, as one of the turn that is refused so
+refusal_itself : (refusal : Refusal) (scene : Scene) → IsRefusalOf refusal scene (stays scene (No (code_of refusal)))
+refusal_itself refusals.NoMemory scene = tt
+refusal_itself refusal scene = refl
+
+text_itself : (refusal : Refusal) (text : List ℕ) → LeavesText refusal text text
+text_itself refusals.NoMemory text = extends_itself text
+text_itself refusal text = refl
+
+-- a load that is refused before its file is fetched
+pub load_early : (refusal : Refusal) (scene : Scene) (name : List ℕ) (form : LoadForm) (file before : List ℕ) (shelf : ShelfView) → first_cause (load_causes scene name form) ≡ Some (code_of refusal)
+    → CarriesOver (Err refusal) scene scene before before shelf shelf (request_of scene (commands.Load name form file))
+load_early refusal scene name form file before shelf h =
+    let quiet : code_of_shelf (code_of refusal) ≡ false = sym (ap maybe_of_shelf h) ∙ quiet_first (load_causes scene name form) refl in
+    carried_alone (Err refusal) scene scene before before shelf (request_of scene (commands.Load name form file)) (stays scene (No (code_of refusal)))
+    (ap (λ (o : Option Code). is_none o) h) (λ fetched. load_refused fetched scene name form file (code_of refusal) h) (record { reply = quiet; placed = refl })
+    (refusal_itself refusal scene, text_itself refusal before, refl)
+
+-- the turn of a load that fetched
+pub load_turn_of : (files : Option Files) (scene : Scene) (name : List ℕ) (form : LoadForm) (file : List ℕ) (got : Option (List ℕ)) → first_cause (load_causes scene name form) ≡ None → HasFile files file got
+    → IsTurnOf files (request_of scene (commands.Load name form file)) (load_by scene name form file got)
+load_turn_of files scene name form file got h has =
+    fetched_turn files (request_of scene (commands.Load name form file)) file (load_by scene name form file) got (ap (λ (o : Option Code). is_none o) h) (λ fetched. refl) has
+
+-- a load whose file was fetched
+pub load_over : (r : Result (Unit {0}) Refusal) (old new : Scene) (before now : List ℕ) (shelf_old shelf_new : ShelfView) (name : List ℕ) (form : LoadForm) (file bytes : List ℕ)
+    → first_cause (load_causes old name form) ≡ None → HasFile shelf_old.files file (Some bytes) → KeepsFiles shelf_old.files shelf_new.files → shelf_new.faults ≡ shelf_old.faults → shelf_new.misses ≡ shelf_old.misses
+    → Carries r old new before now (load_by old name form file (Some bytes)) → CarriesOver r old new before now shelf_old shelf_new (request_of old (commands.Load name form file))
+load_over r old new before now shelf_old shelf_new name form file bytes h has kept faults misses carried =
+    carried_quiet r old new before now shelf_old shelf_new (request_of old (commands.Load name form file)) (load_by old name form file (Some bytes))
+    (load_turn_of shelf_old.files old name form file (Some bytes) h has)
+    (quiet_turn (load_causes old name form ++ file_causes (λ _. Some bytes) old name form file) old (replaced old name (loaded (λ _. Some bytes) old name form file)) refl (record { reply = refl; placed = refl })) kept faults misses carried
+
+-- a load whose file was fetched and not read
+pub unread_carries : (refusal : Refusal) (scene : Scene) (name : List ℕ) (form : LoadForm) (file bytes before now : List ℕ) → first_cause (load_causes scene name form) ≡ None → now ≡ before
+    → ReadsFigure (Err refusal) (figure_in form (dim_of scene name) bytes) → Carries (Err refusal) scene scene before now (load_by scene name form file (Some bytes))
+unread_carries refusals.Form scene name form file bytes before now h text e = (load_unread scene name form file bytes h e, text, refl)
+unread_carries refusals.NoMemory scene name form file bytes before now h text e = (tt, subst (Extends before) (sym text) (extends_itself before), refl)
+unread_carries refusal scene name form file bytes before now h text e = absurd e
+
+-- a save whose file was placed
+pub save_done : (scene : Scene) (name : List ℕ) (form : SaveForm) (file bytes before now : List ℕ) (shelf_old shelf_new : ShelfView) → stands scene name ≡ true → bytes ≡ bytes_in form (value scene name)
+    → now ≡ before ++ reply_text (Measured (length bytes)) → PlacesFile shelf_old.files shelf_new.files file bytes → shelf_new.faults ≡ shelf_old.faults → shelf_new.misses ≡ shelf_old.misses
+    → CarriesOver (Ok tt) scene scene before now shelf_old shelf_new (request_of scene (commands.Save name form file))
+save_done scene name form file bytes before now shelf_old shelf_new s e text placed faults misses = record {
+  turn = saved scene file bytes;
+  made = one_turn shelf_old.files (request_of scene (commands.Save name form file)) (saved scene file bytes) refl
+      (λ fetched. ap (λ (b : Bool). unless_refused (first_cause ((not b, Name) ∷ [])) scene (saved scene file (bytes_in form (value scene name)))) s ∙ ap (saved scene file) (sym e));
+  text = text;
+  fine = refl;
+  scene = refl;
+  told = placed_told shelf_old.files shelf_new.files file bytes placed;
+  files = placed_files shelf_old.files shelf_new.files file bytes placed;
+  faults = faults;
+  misses = misses;
+}

@@ -1,0 +1,95 @@
+//! Files of a shelf that are put in place of the cells of an input, and solids that are placed as files.
+
+ghost use Rattle.std.specs.Prelude.{◌≡◌, ◌≤◌, IfOk};
+ghost use Rattle.evm_model.specs.Files.{bytes_in};
+ghost use Rattle.evm_scene.specs.Tables.{figure_of};
+ghost use Rattle.evm_session.specs.Answers.{shelf_view};
+ghost use Rattle.evm_session.specs.Loads.{FindsInput};
+ghost use Rattle.evm_session.specs.Requests.{request_of, CarriesOver};
+ghost use Rattle.evm_script.specs.declared.command.Command.TheVariants as commands;
+
+use super::edits::edit;
+use super::readers::{check_form, read_form};
+use super::refusals::Refusal;
+use super::replies::{put_number, reserve_number};
+use evm_outside::Shelf;
+use evm_rows::{NoMemory, Solid};
+use evm_scene::{Edit, Scene};
+use evm_script::{FileName, LoadForm, Name, SaveForm};
+use std::alloc::Global;
+
+/// The dimension of the input that a file is to be loaded into, or the first cause why nothing can be loaded, whatever the file:
+/// `Name`, `Kind`, `Dim` or `Range`. Takes no memory.
+fn find_input(scene: &Scene, name: &Name, form: &LoadForm) -> Result<usize, Refusal>
+    ensures found { FindsInput result scene.now name.now form.now }
+    ensures low { IfOk result (λ dim. 2 ≤ dim) }
+    ensures high { IfOk result (λ dim. dim ≤ 6) }
+{
+    scene.facts();
+    let Some(entry) = scene.entry(name) else {
+        return Err(Refusal::Name);
+    };
+    if !entry.input {
+        return Err(Refusal::Kind);
+    }
+    check_form(form, entry.dim)?;
+    Ok(entry.dim)
+}
+
+/// Puts the cells that a file states in place of those of an input, and tells how many names changed. The room for the reply
+/// comes before the file.
+///
+/// Without a refusal before the file is fetched, it is `Missing` or `Shelf` where none was fetched, `Form` where its bytes state
+/// no solid of the input's dimension, and `Range` where a formula would move a cell out of the limits. Takes memory for the bytes
+/// and for what they state.
+pub fn load<S: Shelf>(
+    scene: &mut Scene,
+    alloc: Global,
+    name: Name,
+    form: &LoadForm,
+    file: &FileName,
+    shelf: &mut S,
+    out: &mut Vec<u8>,
+) -> Result<(), Refusal>
+    ensures { CarriesOver result scene.old scene.new out.old.items out.new.items (shelf_view (S.files shelf.old) (S.faults shelf.old) (S.misses shelf.old)) (shelf_view (S.files shelf.new) (S.faults shelf.new) (S.misses shelf.new)) (request_of scene.old (commands.Load name form.now file.now)) }
+{
+    let dim = find_input(scene, &name, form)?;
+    reserve_number(out)?;
+    let bytes = shelf.fetch(alloc, file.bytes())?;
+    let solid = read_form(alloc, form, dim, bytes.as_slice())?;
+    edit(scene, alloc, Edit::Replace { name, solid }, out)
+}
+
+/// The bytes of the file of a solid.
+#[tactic(auto, unfolding(evm_model::specs::Files::bytes_in))]
+fn write_form(alloc: Global, form: &SaveForm, solid: &Solid) -> Result<Vec<u8>, NoMemory>
+    ensures { IfOk result (λ bytes. bytes.items ≡ bytes_in form.now (figure_of solid.now)) }
+{
+    match form {
+        SaveForm::Evm => evm_file::write(alloc, solid),
+    }
+}
+
+/// Places the solid of a name as a file, and tells how many bytes it has. The room for the reply comes before the file.
+///
+/// It is `Name` where the name does not stand, and `Shelf` where the shelf failed. Takes memory for the bytes.
+pub fn save<S: Shelf>(
+    scene: &Scene,
+    alloc: Global,
+    name: &Name,
+    form: &SaveForm,
+    file: &FileName,
+    shelf: &mut S,
+    out: &mut Vec<u8>,
+) -> Result<(), Refusal>
+    ensures { CarriesOver result scene.now scene.now out.old.items out.new.items (shelf_view (S.files shelf.old) (S.faults shelf.old) (S.misses shelf.old)) (shelf_view (S.files shelf.new) (S.faults shelf.new) (S.misses shelf.new)) (request_of scene.now (commands.Save name.now form.now file.now)) }
+{
+    let Some(solid) = scene.kept(name) else {
+        return Err(Refusal::Name);
+    };
+    let bytes = write_form(alloc, form, solid)?;
+    reserve_number(out)?;
+    shelf.place(alloc, file.bytes(), bytes.as_slice())?;
+    put_number(out, bytes.len());
+    Ok(())
+}
