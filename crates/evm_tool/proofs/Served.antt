@@ -1,42 +1,117 @@
 -- How the lines that were answered grow by one, and what they give at the end.
-use Rattle.std.proofs.Common.{◌≡◌, ℕ, ◌+◌, ◌≤◌, Bool, true, false, not, ◌||◌, List, [], ◌∷◌, ◌++◌, length, take, drop, refl, sym, ◌∙◌, ap, subst, arith, append_assoc, Option, Ok, Err, codes}
+use Rattle.std.proofs.Common.{◌≡◌, ℕ, ◌+◌, ◌≤◌, Bool, true, false, not, ◌||◌, List, [], ◌∷◌, ◌++◌, length, take, drop, refl, sym, ◌∙◌, ap, subst, arith, Option, is_some, Result, Ok, Err, codes}
 use Rattle.std.proofs.lemmas.List.{take-append-drop, length-append, length-drop}
 use Rattle.std.specs.Io.KnownBytes.{Appends}
+use Rattle.evm_cells.proofs.Xor.{and_both}
 use Rattle.evm_outside.specs.declared.Failed.{Failed}
 use Rattle.evm_model.specs.Scene.{Scene, start}
 use Rattle.evm_model.specs.Replies.{Reply, reply_text, is_no}
-use Rattle.evm_model.specs.Runs.{Mark, NoMemory, answer, lines, run, texts, some_no, scene_after}
+use Rattle.evm_model.specs.Runs.{World, Mark, NoMemory, answer, may_have, lines, run, texts, some_no, world_after}
 use Rattle.evm_model.proofs.LineLaws.{lines_nil}
-use Rattle.evm_model.proofs.RunLaws.{run_more, scene_more, texts_more, some_no_more, drop_more, run_no_marks, after_no_marks}
+use Rattle.evm_model.proofs.RunLaws.{run_more, world_more, texts_more, some_no_more, drop_more, run_no_marks, after_no_marks, may_no_marks, may_more}
+use Rattle.evm_session.specs.Answers.{ShelfView, IsAnswered, IsAsBefore, world_of, AreFiles}
+use Rattle.evm_tool.specs.Streams.{AppendsPart}
 use Rattle.evm_tool.specs.Served.{Serves, Progress}
-use Rattle.evm_tool.specs.Top.{Answers, WritesTo}
+use Rattle.evm_tool.specs.Top.{first_world, is_no_shelf, is_no_missing, Counts, LeavesShelf, Answers, WritesTo}
 use Rattle.evm_tool.specs.declared.top.Status.TheVariants.{Done, Refused, WriteFault}
 use Rattle.evm_tool.proofs.Streams.{appends_nothing, appends_more}
+use Rattle.evm_tool.proofs.Worlds.{IsSameButFiles, IsOf, alike, files_alike, may_alike, told_kept, files_kept, files_told}
+use Rattle.evm_tool.proofs.Counts.{counts_none, counts_more, tells_faults, tells_misses, faults_over, misses_over}
+
+cleared : (gone text reply : List ℕ) → gone ≡ [] → text ≡ gone ++ reply → text ≡ reply
+cleared gone text reply g e = e ∙ ap (λ (front : List ℕ). front ++ reply) g
+
+-- a line was answered, and its reply went out
+pub serves_fine : (line : List ℕ) (old new : Scene) (gone text piece : List ℕ) (fine : Bool) (before now : Option (List ℕ)) (s t : ShelfView)
+    → gone ≡ [] → piece ≡ text → IsAnswered line old new gone text fine s t → Appends before now piece → Serves (Ok fine) old new before now line s t
+serves_fine line old new gone text piece fine before now s t g e a sent = record {
+  mark = a.mark;
+  allowed = a.allowed;
+  scene = a.scene;
+  sent = (subst (λ (bytes : List ℕ). Appends before now bytes) (e ∙ cleared gone text _ g a.text) sent, a.refused);
+  told = a.told;
+  files = a.files;
+  faults = faults_over (world_of old s.files) line a.mark s.faults t.faults a.faults;
+  misses = misses_over (answer (world_of old s.files) line a.mark).reply s.misses t.misses a.misses;
+}
+
+-- or a front of it
+pub serves_cut : (line : List ℕ) (old new : Scene) (gone text piece : List ℕ) (fine : Bool) (f : Failed) (before now : Option (List ℕ)) (s t : ShelfView)
+    → gone ≡ [] → piece ≡ text → IsAnswered line old new gone text fine s t → AppendsPart before now piece → Serves (Err f) old new before now line s t
+serves_cut line old new gone text piece fine f before now s t g e a sent = record {
+  mark = a.mark;
+  allowed = a.allowed;
+  scene = a.scene;
+  sent = subst (λ (bytes : List ℕ). AppendsPart before now bytes) (e ∙ cleared gone text _ g a.text) sent;
+  told = a.told;
+  files = a.files;
+  faults = faults_over (world_of old s.files) line a.mark s.faults t.faults a.faults;
+  misses = misses_over (answer (world_of old s.files) line a.mark).reply s.misses t.misses a.misses;
+}
+
+-- the reply where memory was missing
+memory_reply : (world : World) (line : List ℕ) → codes "no memory" ++ 10 ∷ [] ≡ reply_text (answer world line NoMemory).reply
+unfolding reply_text
+memory_reply world line = refl
+
+-- memory was missing, which is a reply too and changes nothing
+pub serves_lack : (line : List ℕ) (old new : Scene) (text gone : List ℕ) (before now : Option (List ℕ)) (s t : ShelfView)
+    → IsAsBefore old new gone text s t → Appends before now (codes "no memory" ++ 10 ∷ []) → Serves (Ok false) old new before now line s t
+serves_lack line old new text gone before now s t a sent = record {
+  mark = NoMemory;
+  allowed = refl;
+  scene = a.scene;
+  sent = (subst (λ (bytes : List ℕ). Appends before now bytes) (memory_reply (world_of old s.files) line) sent, refl);
+  told = told_kept s.files t.files a.files;
+  files = files_kept s.files t.files a.files;
+  faults = a.faults;
+  misses = a.misses;
+}
+
+pub serves_lack_cut : (line : List ℕ) (old new : Scene) (text gone : List ℕ) (f : Failed) (before now : Option (List ℕ)) (s t : ShelfView)
+    → IsAsBefore old new gone text s t → AppendsPart before now (codes "no memory" ++ 10 ∷ []) → Serves (Err f) old new before now line s t
+serves_lack_cut line old new text gone f before now s t a sent = record {
+  mark = NoMemory;
+  allowed = refl;
+  scene = a.scene;
+  sent = subst (λ (bytes : List ℕ). AppendsPart before now bytes) (memory_reply (world_of old s.files) line) sent;
+  told = told_kept s.files t.files a.files;
+  files = files_kept s.files t.files a.files;
+  faults = a.faults;
+  misses = a.misses;
+}
+
+leaves_none : (ls : List (List ℕ)) (s : ShelfView) → LeavesShelf ls [] s s
+leaves_none ls s = record {
+  allowed = may_no_marks (is_some s.files) (first_world s) ls;
+  told = refl;
+  files = subst (λ (w : World). AreFiles s.files w.files) (sym (after_no_marks (first_world s) ls)) (files_told s.files);
+  faults = subst (λ (rs : List Reply). Counts is_no_shelf rs s.faults s.faults) (sym (run_no_marks (first_world s) ls)) (counts_none is_no_shelf s.faults);
+  misses = subst (λ (rs : List Reply). Counts is_no_missing rs s.misses s.misses) (sym (run_no_marks (first_world s) ls)) (counts_none is_no_missing s.misses);
+}
 
 -- before the first line
-pub progress_start : (ls : List (List ℕ)) (scene : Scene) (o : Option (List ℕ)) → scene ≡ start → Progress ls ls scene o o false
-progress_start ls scene o e = record {
+pub progress_start : (ls : List (List ℕ)) (scene : Scene) (o : Option (List ℕ)) (s : ShelfView) → scene ≡ start → Progress ls ls scene o o false s s
+progress_start ls scene o s e = record {
   marks = [];
   most = omega arith;
   left = refl;
-  reached = e ∙ sym (after_no_marks start ls);
-  text = subst (λ (rs : List Reply). Appends o o (texts rs)) (sym (run_no_marks start ls)) (appends_nothing o);
-  refused = ap some_no (run_no_marks start ls);
+  reached = e ∙ ap (λ (w : World). w.scene) (sym (after_no_marks (first_world s) ls));
+  shelf = leaves_none ls s;
+  text = subst (λ (rs : List Reply). Appends o o (texts rs)) (sym (run_no_marks (first_world s) ls)) (appends_nothing o);
+  refused = ap some_no (run_no_marks (first_world s) ls);
 }
 
--- the reply that a mark gives, in the scene that the run has come to
-module _ (ls rest : List (List ℕ)) (line : List ℕ) (after : List (List ℕ)) (old : Scene) (a b : Option (List ℕ)) (some : Bool) (p : Progress ls rest old a b some) (e : rest ≡ line ∷ after) (m : Mark) where
+-- the reply that a mark gives in the world that the run has come to
+module _ (ls rest : List (List ℕ)) (line : List ℕ) (after : List (List ℕ)) (old : Scene) (a b : Option (List ℕ)) (some : Bool) (first s : ShelfView) (p : Progress ls rest old a b some first s) (e : rest ≡ line ∷ after) (m : Mark) where
   here : drop (length p.marks) ls ≡ line ∷ after
   here = p.left ∙ e
 
-  reply_here : (answer (scene_after start ls p.marks) line m).reply ≡ (answer old line m).reply
-  reply_here = ap (λ (w : Scene). (answer w line m).reply) (sym p.reached)
+  is_here : IsOf s.files old (world_after (first_world first) ls p.marks)
+  is_here = record { scene = p.reached; files = p.shelf.files }
 
-  run_here : run start ls (p.marks ++ m ∷ []) ≡ run start ls p.marks ++ (answer old line m).reply ∷ []
-  run_here = run_more start ls p.marks line after m here ∙ ap (λ (r : Reply). run start ls p.marks ++ r ∷ []) reply_here
-
-  texts_here : texts (run start ls (p.marks ++ m ∷ [])) ≡ texts (run start ls p.marks) ++ reply_text (answer old line m).reply
-  texts_here = ap texts run_here ∙ texts_more (run start ls p.marks) (answer old line m).reply
+  run_here : run (first_world first) ls (p.marks ++ m ∷ []) ≡ run (first_world first) ls p.marks ++ (answer (world_after (first_world first) ls p.marks) line m).reply ∷ []
+  run_here = run_more (first_world first) ls p.marks line after m here
 
   count_here : length (p.marks ++ m ∷ []) ≡ length p.marks + 1
   count_here = length-append p.marks (m ∷ [])
@@ -44,44 +119,86 @@ module _ (ls rest : List (List ℕ)) (line : List ℕ) (after : List (List ℕ))
   room_here : length p.marks + 1 ≤ length ls
   room_here = omega (arith, ap length here, length-drop (length p.marks) ls)
 
+  allowed_here : may_have (is_some s.files) (world_of old s.files) line m ≡ true → may_have (is_some first.files) (world_after (first_world first) ls p.marks) line m ≡ true
+  allowed_here h =
+      ap (λ (told : Bool). may_have told (world_after (first_world first) ls p.marks) line m) (sym p.shelf.told)
+      ∙ sym (may_alike (is_some s.files) (world_of old s.files) (world_after (first_world first) ls p.marks) line m p.reached) ∙ h
+
 not_not : (b f : Bool) → f ≡ not b → not f ≡ b
 not_not true f e = ap not e
 not_not false f e = ap not e
 
+-- what one line more leaves of the shelf, and the scene after it
+module _ (ls rest : List (List ℕ)) (line : List ℕ) (after : List (List ℕ)) (old new : Scene) (a b c : Option (List ℕ)) (some : Bool) (first s t : ShelfView) (r : Result Bool Failed) (p : Progress ls rest old a b some first s) (e : rest ≡ line ∷ after) (v : Serves r old new b c line s t) where
+  alike_here : IsSameButFiles (answer (world_of old s.files) line v.mark) (answer (world_after (first_world first) ls p.marks) line v.mark)
+  alike_here = alike s.files old (world_after (first_world first) ls p.marks) line v.mark (is_here ls rest line after old a b some first s p e v.mark) v.allowed
+
+  world_there : world_after (first_world first) ls (p.marks ++ v.mark ∷ []) ≡ (answer (world_after (first_world first) ls p.marks) line v.mark).world
+  world_there = world_more (first_world first) ls p.marks line after v.mark (here ls rest line after old a b some first s p e v.mark)
+
+  run_there : run (first_world first) ls (p.marks ++ v.mark ∷ []) ≡ run (first_world first) ls p.marks ++ (answer (world_of old s.files) line v.mark).reply ∷ []
+  run_there = run_here ls rest line after old a b some first s p e v.mark ∙ ap (λ (reply : Reply). run (first_world first) ls p.marks ++ reply ∷ []) (sym alike_here.reply)
+
+  reached_there : new ≡ (world_after (first_world first) ls (p.marks ++ v.mark ∷ [])).scene
+  reached_there = v.scene ∙ alike_here.scene ∙ ap (λ (w : World). w.scene) (sym world_there)
+
+  leaves_there : LeavesShelf ls (p.marks ++ v.mark ∷ []) first t
+  leaves_there = record {
+    allowed = may_more (is_some first.files) (first_world first) ls p.marks line after v.mark (here ls rest line after old a b some first s p e v.mark)
+        ∙ and_both _ _ p.shelf.allowed (allowed_here ls rest line after old a b some first s p e v.mark v.allowed);
+    told = v.told ∙ p.shelf.told;
+    files = subst (λ (w : World). AreFiles t.files w.files) (sym world_there)
+        (files_alike s.files t.files old (world_after (first_world first) ls p.marks) line v.mark (is_here ls rest line after old a b some first s p e v.mark) v.told v.files);
+    faults = subst (λ (rs : List Reply). Counts is_no_shelf rs first.faults t.faults) (sym run_there)
+        (counts_more is_no_shelf _ _ first.faults s.faults t.faults p.shelf.faults (tells_faults _ s.faults t.faults v.faults));
+    misses = subst (λ (rs : List Reply). Counts is_no_missing rs first.misses t.misses) (sym run_there)
+        (counts_more is_no_missing _ _ first.misses s.misses t.misses p.shelf.misses (tells_misses _ s.misses t.misses v.misses));
+  }
+
 -- one line more was answered
-pub progress_more : (ls rest : List (List ℕ)) (line : List ℕ) (after : List (List ℕ)) (old new : Scene) (a b c : Option (List ℕ)) (some fine next : Bool) → Progress ls rest old a b some → rest ≡ line ∷ after → Serves (Ok fine) old new b c line → next ≡ some || not fine → Progress ls after new a c next
-progress_more ls rest line after old new a b c some fine next p e s n = record {
-  marks = p.marks ++ s.mark ∷ [];
-  most = omega (arith, room_here ls rest line after old a b some p e s.mark, count_here ls rest line after old a b some p e s.mark);
-  left = ap (λ (k : ℕ). drop k ls) (count_here ls rest line after old a b some p e s.mark)
-      ∙ drop_more ls (length p.marks) line after (here ls rest line after old a b some p e s.mark);
-  reached = s.scene ∙ ap (λ (w : Scene). (answer w line s.mark).scene) p.reached
-      ∙ sym (scene_more start ls p.marks line after s.mark (here ls rest line after old a b some p e s.mark));
-  text = subst (λ (t : List ℕ). Appends a c t) (sym (texts_here ls rest line after old a b some p e s.mark))
-      (appends_more a b c (texts (run start ls p.marks)) (reply_text (answer old line s.mark).reply) p.text s.sent.0);
-  refused = ap some_no (run_here ls rest line after old a b some p e s.mark)
-      ∙ some_no_more (run start ls p.marks) (answer old line s.mark).reply
-      ∙ ap (λ (t : Bool). t || is_no (answer old line s.mark).reply) p.refused
-      ∙ ap (λ (t : Bool). some || t) (sym (not_not (is_no (answer old line s.mark).reply) fine s.sent.1))
-      ∙ sym n;
-}
+pub progress_more : (ls rest : List (List ℕ)) (line : List ℕ) (after : List (List ℕ)) (old new : Scene) (a b c : Option (List ℕ)) (some fine next : Bool) (first s t : ShelfView)
+    → Progress ls rest old a b some first s → rest ≡ line ∷ after → Serves (Ok fine) old new b c line s t → next ≡ some || not fine → Progress ls after new a c next first t
+progress_more ls rest line after old new a b c some fine next first s t p e v n =
+    let so_far = run (first_world first) ls p.marks in
+    let reply = (answer (world_of old s.files) line v.mark).reply in
+    let one_more = run_there ls rest line after old new a b c some first s t (Ok fine) p e v in
+    record {
+      marks = p.marks ++ v.mark ∷ [];
+      most = omega (arith, room_here ls rest line after old a b some first s p e v.mark, count_here ls rest line after old a b some first s p e v.mark);
+      left = ap (λ (k : ℕ). drop k ls) (count_here ls rest line after old a b some first s p e v.mark)
+          ∙ drop_more ls (length p.marks) line after (here ls rest line after old a b some first s p e v.mark);
+      reached = reached_there ls rest line after old new a b c some first s t (Ok fine) p e v;
+      shelf = leaves_there ls rest line after old new a b c some first s t (Ok fine) p e v;
+      text = subst (λ (bytes : List ℕ). Appends a c bytes) (sym (ap texts one_more ∙ texts_more so_far reply))
+          (appends_more a b c (texts so_far) (reply_text reply) p.text v.sent.0);
+      refused = ap some_no one_more ∙ some_no_more so_far reply
+          ∙ ap (λ (t : Bool). t || is_no reply) p.refused
+          ∙ ap (λ (t : Bool). some || t) (sym (not_not (is_no reply) fine v.sent.1))
+          ∙ sym n;
+    }
 
 -- the sink failed at the next line
-pub progress_cut : (script : List ℕ) (rest : List (List ℕ)) (line : List ℕ) (after : List (List ℕ)) (old new : Scene) (a b c : Option (List ℕ)) (some : Bool) (f : Failed) → Progress (lines script) rest old a b some → rest ≡ line ∷ after → Serves (Err f) old new b c line → WritesTo a c WriteFault script
-progress_cut script rest line after old new a b c some f p e s =
-    let text = reply_text (answer old line s.mark).reply in
-    let so_far = texts (run start (lines script) p.marks) in
-    let n = s.sent.0 in
+pub progress_cut : (script : List ℕ) (rest : List (List ℕ)) (line : List ℕ) (after : List (List ℕ)) (old new : Scene) (a b c : Option (List ℕ)) (some : Bool) (f : Failed) (first s t : ShelfView)
+    → Progress (lines script) rest old a b some first s → rest ≡ line ∷ after → Serves (Err f) old new b c line s t → WritesTo a c WriteFault script first t
+progress_cut script rest line after old new a b c some f first s t p e v =
+    let text = reply_text (answer (world_of old s.files) line v.mark).reply in
+    let so_far = texts (run (first_world first) (lines script) p.marks) in
+    let n = v.sent.0 in
     record {
       gained = so_far ++ take n text;
-      appended = appends_more a b c so_far (take n text) p.text s.sent.2;
+      appended = appends_more a b c so_far (take n text) p.text v.sent.2;
       written = record {
-        marks = p.marks ++ s.mark ∷ [];
+        marks = p.marks;
+        mark = v.mark;
+        line = line;
+        later = after;
+        here = p.left ∙ e;
+        shelf = leaves_there (lines script) rest line after old new a b c some first s t (Err f) p e v;
+        front = take n text;
         rest = drop n text;
-        more = omega (arith, s.sent.1, length-drop n text);
-        text = append_assoc so_far (take n text) (drop n text)
-            ∙ ap (λ (t : List ℕ). so_far ++ t) (take-append-drop n text)
-            ∙ sym (texts_here (lines script) rest line after old a b some p e s.mark);
+        more = omega (arith, v.sent.1, length-drop n text);
+        cut = take-append-drop n text ∙ ap reply_text (alike_here (lines script) rest line after old new a b c some first s t (Err f) p e v).reply;
+        text = refl;
       };
     }
 
@@ -89,23 +206,22 @@ none_left : (xs : List ℕ) → length xs ≡ 0 → lines xs ≡ []
 none_left [] h = lines_nil
 none_left (x ∷ xs) h = absurd (omega arith)
 
-progress_all : (ls : List (List ℕ)) (rest : List ℕ) (scene : Scene) (a b : Option (List ℕ)) (some : Bool) (p : Progress ls (lines rest) scene a b some) → length rest ≡ 0 → Answers ls (texts (run start ls p.marks)) some
-progress_all ls rest scene a b some p h = record {
+progress_all : (ls : List (List ℕ)) (rest : List ℕ) (scene : Scene) (a b : Option (List ℕ)) (some : Bool) (first s : ShelfView) (p : Progress ls (lines rest) scene a b some first s)
+    → length rest ≡ 0 → Answers ls (texts (run (first_world first) ls p.marks)) some first s
+progress_all ls rest scene a b some first s p h = record {
   marks = p.marks;
   each = omega (arith, p.most, ap length (p.left ∙ none_left rest h), length-drop (length p.marks) ls);
+  shelf = p.shelf;
   text = refl;
   refused = p.refused;
 }
 
 -- all lines were answered and none was refused
-pub progress_done : (script rest : List ℕ) (scene : Scene) (a b : Option (List ℕ)) → Progress (lines script) (lines rest) scene a b false → length rest ≡ 0 → WritesTo a b Done script
-progress_done script rest scene a b p h = record { gained = texts (run start (lines script) p.marks); appended = p.text; written = progress_all (lines script) rest scene a b false p h }
+pub progress_done : (script rest : List ℕ) (scene : Scene) (a b : Option (List ℕ)) (first s : ShelfView) → Progress (lines script) (lines rest) scene a b false first s → length rest ≡ 0 → WritesTo a b Done script first s
+progress_done script rest scene a b first s p h =
+    record { gained = texts (run (first_world first) (lines script) p.marks); appended = p.text; written = progress_all (lines script) rest scene a b false first s p h }
 
 -- all lines were answered and some was refused
-pub progress_refused : (script rest : List ℕ) (scene : Scene) (a b : Option (List ℕ)) → Progress (lines script) (lines rest) scene a b true → length rest ≡ 0 → WritesTo a b Refused script
-progress_refused script rest scene a b p h = record { gained = texts (run start (lines script) p.marks); appended = p.text; written = progress_all (lines script) rest scene a b true p h }
-
--- want of memory is a reply, and changes nothing
-pub memory_text : (line : List ℕ) (scene : Scene) → reply_text (answer scene line NoMemory).reply ≡ codes "no memory" ++ 10 ∷ []
-unfolding reply_text
-memory_text line scene = refl
+pub progress_refused : (script rest : List ℕ) (scene : Scene) (a b : Option (List ℕ)) (first s : ShelfView) → Progress (lines script) (lines rest) scene a b true first s → length rest ≡ 0 → WritesTo a b Refused script first s
+progress_refused script rest scene a b first s p h =
+    record { gained = texts (run (first_world first) (lines script) p.marks); appended = p.text; written = progress_all (lines script) rest scene a b true first s p h }

@@ -1,9 +1,14 @@
--- What a run reads and writes, by its status.
-use Rattle.std.specs.Prelude.{ℕ, ◌≡◌, ◌+◌, ◌<◌, ◌≤◌, Bool, true, false, List, [], ◌∷◌, ◌++◌, length, Option, bytes_eq, codes}
+-- What a run reads, writes and places, by its status.
+use Rattle.std.specs.Prelude.{ℕ, ◌≡◌, ◌+◌, ◌-◌, ◌^◌, ◌<◌, ◌≤◌, min, Bool, true, false, List, [], ◌∷◌, ◌++◌, length, drop, count_by, Option, is_some, bytes_eq, codes}
+use Rattle.std.specs.List.{list_any}
 use Rattle.std.specs.Io.KnownBytes.{Appends, Keeps, IsAtEnd}
 use Rattle.evm_outside.specs.Causes.{Rose}
+use Rattle.evm_outside.specs.Shelves.{KeepsFiles}
 use Rattle.evm_model.specs.Scene.{start}
-use Rattle.evm_model.specs.Runs.{Mark, lines, run, texts, some_no}
+use Rattle.evm_model.specs.Edits.{Shelf, Missing, Memory}
+use Rattle.evm_model.specs.Replies.{Reply, No, reply_text}
+use Rattle.evm_model.specs.Runs.{World, Mark, lines, answer, may_all_have, run, world_after, texts, some_no}
+use Rattle.evm_session.specs.Answers.{ShelfView, world_of, AreFiles}
 use Rattle.evm_tool.specs.Streams.{script_limit, TakesUpTo, TakesJust}
 use Rattle.evm_tool.specs.declared.take.Cut.{Cut}
 use Rattle.evm_tool.specs.declared.take.Cut.TheVariants as cuts
@@ -17,35 +22,98 @@ is_run (program ∷ []) = false
 is_run (program ∷ word ∷ []) = bytes_eq word (codes "run")
 is_run (program ∷ word ∷ more ∷ rest) = false
 
+-- the world in which a run starts: no names, and the files that the shelf tells
+abbrev pub first_world : ShelfView → World
+first_world shelf = world_of start shelf.files
+
+-- whether a reply is `no shelf`
+abbrev pub is_no_shelf : Reply → Bool
+is_no_shelf (No Shelf) = true
+is_no_shelf reply = false
+
+-- whether a reply is `no missing`
+abbrev pub is_no_missing : Reply → Bool
+is_no_missing (No Missing) = true
+is_no_missing reply = false
+
+-- whether a reply is `no memory`, behind which the shelf may have failed too
+abbrev pub is_no_memory : Reply → Bool
+is_no_memory (No Memory) = true
+is_no_memory reply = false
+
+-- a count rose by so much at least, or stands at the last value of a 64-bit counter
+abbrev pub RoseBy : ℕ → ℕ → ℕ → Type 0
+RoseBy much before now = min (before + much) (2 ^ 64 - 1) ≤ now
+
+-- a count over these replies: it rose once for each of one kind at least, and stays where there is none of this kind and none
+-- that says that memory was missing
+pub record Counts (kind : Reply → Bool) (replies : List Reply) (before now : ℕ) : Type 0 where
+  pub rose : RoseBy (count_by kind replies) before now
+  pub stays : list_any kind replies ≡ false → list_any is_no_memory replies ≡ false → now ≡ before
+
+-- what answering these lines with these marks leaves of the shelf: the files of the run, and counts that tell of its replies
+pub record LeavesShelf (ls : List (List ℕ)) (marks : List Mark) (before now : ShelfView) : Type 0 where
+  pub allowed : may_all_have (is_some before.files) (first_world before) ls marks ≡ true
+  pub told : is_some now.files ≡ is_some before.files
+  pub files : AreFiles now.files (world_after (first_world before) ls marks).files
+  pub faults : Counts is_no_shelf (run (first_world before) ls marks) before.faults now.faults
+  pub misses : Counts is_no_missing (run (first_world before) ls marks) before.misses now.misses
+
 -- all these lines were answered, with one mark each, and some reply refuses or none does
-pub record Answers (ls : List (List ℕ)) (gained : List ℕ) (some : Bool) : Type 0 where
+pub record Answers (ls : List (List ℕ)) (gained : List ℕ) (some : Bool) (before now : ShelfView) : Type 0 where
   pub marks : List Mark
   pub each : length marks ≡ length ls
-  pub text : gained ≡ texts (run start ls marks)
-  pub refused : some_no (run start ls marks) ≡ some
+  pub shelf : LeavesShelf ls marks before now
+  pub text : gained ≡ texts (run (first_world before) ls marks)
+  pub refused : some_no (run (first_world before) ls marks) ≡ some
 
--- only a front of the replies to these lines
-pub record Begins (ls : List (List ℕ)) (gained : List ℕ) : Type 0 where
+-- some of these lines were answered whole and one more in part: a front of its reply was written, and not all of it
+pub record Begins (ls : List (List ℕ)) (gained : List ℕ) (before now : ShelfView) : Type 0 where
   pub marks : List Mark
+  pub mark : Mark
+  pub line : List ℕ
+  pub later : List (List ℕ)
+  pub here : drop (length marks) ls ≡ line ∷ later
+  pub shelf : LeavesShelf ls (marks ++ mark ∷ []) before now
+  pub front : List ℕ
   pub rest : List ℕ
   pub more : 0 < length rest
-  pub text : gained ++ rest ≡ texts (run start ls marks)
+  pub cut : front ++ rest ≡ reply_text (answer (world_after (first_world before) ls marks) line mark).reply
+  pub text : gained ≡ texts (run (first_world before) ls marks) ++ front
 
--- what was written of the replies to a script
-abbrev pub Writes : Status → List ℕ → List ℕ → Type 0
-Writes Done script gained = Answers (lines script) gained false
-Writes Refused script gained = Answers (lines script) gained true
-Writes Words script gained = gained ≡ []
-Writes ReadFault script gained = gained ≡ []
-Writes WriteFault script gained = Begins (lines script) gained
-Writes NoMemory script gained = gained ≡ []
-Writes TooLong script gained = gained ≡ []
+-- the shelf is as before
+abbrev pub KeepsShelf : ShelfView → ShelfView → Type 0
+KeepsShelf before now = KeepsFiles before.files now.files × (now.faults ≡ before.faults) × (now.misses ≡ before.misses)
+
+-- nothing was written, and the shelf is as before
+abbrev pub DoesNothing : List ℕ → ShelfView → ShelfView → Type 0
+DoesNothing gained before now = (gained ≡ []) × KeepsShelf before now
+
+-- what was written of the replies to a script, and what it left of the shelf
+abbrev pub Writes : Status → List ℕ → List ℕ → ShelfView → ShelfView → Type 0
+Writes Done script gained before now = Answers (lines script) gained false before now
+Writes Refused script gained before now = Answers (lines script) gained true before now
+Writes Words script gained before now = DoesNothing gained before now
+Writes ReadFault script gained before now = DoesNothing gained before now
+Writes WriteFault script gained before now = Begins (lines script) gained before now
+Writes NoMemory script gained before now = DoesNothing gained before now
+Writes TooLong script gained before now = DoesNothing gained before now
 
 -- the same of a sink
-pub record WritesTo (before now : Option (List ℕ)) (status : Status) (script : List ℕ) : Type 0 where
+pub record WritesTo (before now : Option (List ℕ)) (status : Status) (script : List ℕ) (shelf_before shelf_now : ShelfView) : Type 0 where
   pub gained : List ℕ
   pub appended : Appends before now gained
-  pub written : Writes status script gained
+  pub written : Writes status script gained shelf_before shelf_now
+
+-- whatever the source tells, the shelf is as before where no line was answered
+abbrev pub SparesShelf : Status → ShelfView → ShelfView → Type 0
+SparesShelf Done before now = Unit {0}
+SparesShelf Refused before now = Unit {0}
+SparesShelf Words before now = KeepsShelf before now
+SparesShelf ReadFault before now = KeepsShelf before now
+SparesShelf WriteFault before now = Unit {0}
+SparesShelf NoMemory before now = KeepsShelf before now
+SparesShelf TooLong before now = KeepsShelf before now
 
 -- whatever the source tells, nothing is written where no line was answered
 abbrev pub Spares : Status → Option (List ℕ) → Option (List ℕ) → Type 0

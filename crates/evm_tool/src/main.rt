@@ -1,7 +1,7 @@
 //! The program `evm`: `evm run` answers a script of edits and questions on solids, line by line.
 //!
-//! The script comes from standard input and the replies go to standard output. All that the program does is in
-//! [`evm_main`], over any source and sink; `main` makes the real ones.
+//! The script comes from standard input and the replies go to standard output; files are those of the current folder. All
+//! that the program does is in [`evm_main`], over any source, sink and shelf of files; `main` makes the real ones.
 #![tactic(auto)]
 
 mod answers;
@@ -11,7 +11,7 @@ mod take;
 mod tests;
 mod top;
 
-use evm_outside::{StdSink, StdSource};
+use evm_outside::{FolderShelf, StdSink, StdSource};
 use std::env;
 use std::io::ErrorKind;
 use std::process::ExitCode;
@@ -35,7 +35,14 @@ fn main(rt: HostRuntime) -> ExitCode {
         Ok(words) => {
             let mut input = StdSource::new(rt.stdin());
             let mut output = StdSink::new(rt.stdout());
-            evm_main(rt.alloc(), words.as_slice(), &mut input, &mut output)
+            let mut shelf = FolderShelf::new(&rt);
+            evm_main(
+                rt.alloc(),
+                words.as_slice(),
+                &mut input,
+                &mut output,
+                &mut shelf,
+            )
         }
         Err(status) => status,
     };

@@ -1,8 +1,10 @@
-//! Whole runs over a source and a sink in memory: their replies and how they end.
+//! Whole runs over a source, a sink and a shelf in memory: their replies and how they end.
+
+mod files;
 
 use super::take::{PIECE, SCRIPT_LIMIT};
 use super::top::{Status, evm_main};
-use evm_outside::{MemSink, MemSource};
+use evm_outside::{MemShelf, MemSink, MemSource};
 use std::alloc::{AllocError, Global};
 use std::str;
 use std::test::Fail;
@@ -35,13 +37,27 @@ fn spaces(alloc: Global, count: usize) -> Result<Vec<u8>, AllocError> {
     vec![in alloc; b' '; count]
 }
 
-/// Runs a script from a source and to a sink that do not fail.
-fn run(alloc: Global, script: Vec<u8>) -> Result<(Status, MemSink), Fail> {
+/// A shelf without files that does not fail.
+fn no_files(alloc: Global) -> MemShelf {
+    MemShelf::new(alloc, Vec::new(alloc))
+}
+
+/// Runs a script over a shelf, from a source and to a sink that do not fail.
+fn run_over(
+    alloc: Global,
+    script: Vec<u8>,
+    shelf: &mut MemShelf,
+) -> Result<(Status, MemSink), Fail> {
     let words = words_of(alloc, &["evm", "run"])?;
     let mut input = MemSource::new(script, PIECE, Vec::new(alloc));
     let mut output = MemSink::new(alloc, 4096, Vec::new(alloc))?;
-    let status = evm_main(alloc, words.as_slice(), &mut input, &mut output);
+    let status = evm_main(alloc, words.as_slice(), &mut input, &mut output, shelf);
     Ok((status, output))
+}
+
+/// Runs a script where there are no files.
+fn run(alloc: Global, script: Vec<u8>) -> Result<(Status, MemSink), Fail> {
+    run_over(alloc, script, &mut no_files(alloc))
 }
 
 /// The boxes and what is asked of them, and the replies. The sign ` / ` stands between lines.
@@ -261,7 +277,13 @@ fn a_source_that_fails_in_mid_stream_leaves_nothing_written(rt: HostRuntime) -> 
     failing.push(1)?;
     let mut input = MemSource::new(bytes_of(alloc, "input a 2\ntogg")?, 14, failing);
     let mut output = MemSink::new(alloc, 64, Vec::new(alloc))?;
-    let status = evm_main(alloc, words.as_slice(), &mut input, &mut output);
+    let status = evm_main(
+        alloc,
+        words.as_slice(),
+        &mut input,
+        &mut output,
+        &mut no_files(alloc),
+    );
     assert_eq!(rt; status, Status::ReadFault);
     assert_eq!(rt; output.bytes().len(), 0);
     Ok(())
@@ -278,7 +300,13 @@ fn a_sink_that_fails_cuts_the_replies(rt: HostRuntime) -> Result<(), Fail> {
         failing.push(number)?;
         let mut input = MemSource::new(script, PIECE, Vec::new(alloc));
         let mut output = MemSink::new(alloc, room, failing)?;
-        let status = evm_main(alloc, words.as_slice(), &mut input, &mut output);
+        let status = evm_main(
+            alloc,
+            words.as_slice(),
+            &mut input,
+            &mut output,
+            &mut no_files(alloc),
+        );
         assert_eq!(rt; status, Status::WriteFault, "at call {number}");
         assert_eq!(rt;
             str::from_utf8(output.bytes()),
@@ -318,7 +346,13 @@ fn other_words_than_those_of_a_run_are_refused(rt: HostRuntime) -> Result<(), Fa
         let words = words_of(alloc, texts)?;
         let mut input = MemSource::new(bytes_of(alloc, "input a 2\n")?, PIECE, Vec::new(alloc));
         let mut output = MemSink::new(alloc, 64, Vec::new(alloc))?;
-        let status = evm_main(alloc, words.as_slice(), &mut input, &mut output);
+        let status = evm_main(
+            alloc,
+            words.as_slice(),
+            &mut input,
+            &mut output,
+            &mut no_files(alloc),
+        );
         assert_eq!(rt; status, Status::Words, "at {texts:?}");
         assert_eq!(rt; output.bytes().len(), 0, "at {texts:?}");
     }

@@ -1,11 +1,12 @@
 //! The top call.
 
 ghost use Rattle.std.specs.Prelude.{◌≡◌, map, IfSome, false, string_bytes};
-ghost use Rattle.evm_tool.specs.Top.{is_run, WritesTo, Spares, Takes, ReadFaults, WriteFaults, Completes, cut_status, exit_code};
+ghost use Rattle.evm_session.specs.Answers.{shelf_view};
+ghost use Rattle.evm_tool.specs.Top.{is_run, WritesTo, Spares, SparesShelf, Takes, ReadFaults, WriteFaults, Completes, cut_status, exit_code};
 
 use super::answers::answer_all;
 use super::take::{Cut, read_script};
-use evm_outside::{Sink, Source};
+use evm_outside::{Shelf, Sink, Source};
 use std::alloc::Global;
 
 /// How a call of [`evm_main`] ended. The exit statuses are 0 to 6, in this order.
@@ -19,7 +20,7 @@ pub enum Status {
     Words,
     /// The source failed. No line was answered.
     ReadFault,
-    /// The sink failed. Only a front of the replies was written.
+    /// The sink failed. Only a front of the replies was written, and the line whose reply was cut was carried out.
     WriteFault,
     /// No memory was left for the script or the session. No line was answered.
     NoMemory,
@@ -70,16 +71,28 @@ fn names_run(words: &[String]) -> bool
 /// `words` are those of the command line: the program's name, and `run`. A script has at most
 /// [`SCRIPT_LIMIT`](super::take::SCRIPT_LIMIT) bytes, and its lines end in LF or CR LF; the last may lack it. The
 /// replies go out in the order of the lines, each before the next line is answered. A line for which memory is
-/// missing has the reply `no memory`. Memory is taken for the script, one piece of it, one reply and the session.
-pub fn evm_main<I: Source, O: Sink>(
+/// missing has the reply `no memory`. Memory is taken for the script, one piece of it, one reply and the session,
+/// and for a file that a line loads or saves.
+///
+/// `shelf` has the files of the lines `load` and `save`. A line saves to it before its reply is written.
+pub fn evm_main<I: Source, O: Sink, S: Shelf>(
     alloc: Global,
     words: &[String],
     input: &mut I,
     output: &mut O,
+    shelf: &mut S,
 ) -> Status
-    // The replies to the lines of the script: whole at status 0 and 1, a front of them at 4, else nothing.
-    ensures text { IfSome (I.left input.old) (λ script. WritesTo (O.written output.old) (O.written output.new) result script) }
+    // The replies to the lines of the script: whole at status 0 and 1, a front of them at 4, else nothing. The shelf is
+    // the one after the lines that were answered, and its counts tell of their replies.
+    ensures text { IfSome (I.left input.old) (λ script.
+        WritesTo (O.written output.old) (O.written output.new) result script
+        (shelf_view (S.files shelf.old) (S.faults shelf.old) (S.misses shelf.old))
+        (shelf_view (S.files shelf.new) (S.faults shelf.new) (S.misses shelf.new))) }
+    // Where no line was answered, nothing is written and the shelf is as before, whatever the source tells.
     ensures spares { Spares result (O.written output.old) (O.written output.new) }
+    ensures shelf_spared { SparesShelf result
+        (shelf_view (S.files shelf.old) (S.faults shelf.old) (S.misses shelf.old))
+        (shelf_view (S.files shelf.new) (S.faults shelf.new) (S.misses shelf.new)) }
     // Status 2 comes exactly where the words are not those of a run.
     ensures words { result ≡ Status.Words → is_run (map string_bytes words.now) ≡ false }
     ensures other_words { is_run (map string_bytes words.now) ≡ false → result ≡ Status.Words }
@@ -96,7 +109,7 @@ pub fn evm_main<I: Source, O: Sink>(
     }
     let mut script = Vec::new(alloc);
     match read_script(alloc, input, &mut script) {
-        Ok(()) => answer_all(alloc, script.as_slice(), output),
+        Ok(()) => answer_all(alloc, script.as_slice(), output, shelf),
         Err(cut) => status_of(cut),
     }
 }

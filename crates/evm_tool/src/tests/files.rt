@@ -1,0 +1,283 @@
+//! Runs that load and save files.
+
+use super::super::take::PIECE;
+use super::super::top::{Status, evm_main};
+use super::{bytes_of, lines_of, no_files, run_over, words_of};
+use evm_outside::{MemShelf, MemSink, MemSource};
+use std::alloc::Global;
+use std::str;
+use std::test::Fail;
+
+/// The EVM file of the box from 0 0 to 2 3.
+const BOX_FILE: &[u8] =
+    b"NEVM\x01\x02\0\0\0\0\0\0\0\0\0\x04\0\0\0\0\0\0\0\0\0\0\0\0\0\0\0\x03\0\0\0\x02\0\0\0\0\0\0\0\x02\0\0\0\x03";
+
+/// A shelf with the file `f`, of which one call fails.
+fn shelf_of(alloc: Global, bytes: &[u8], failing: u64) -> Result<MemShelf, Fail> {
+    let mut shelf = MemShelf::new(alloc, vec![in alloc; failing]?);
+    shelf.put(alloc, b"f", bytes)?;
+    Ok(shelf)
+}
+
+/// What stands for no call: more than a run makes.
+const NEVER: u64 = 99;
+
+#[test]
+fn a_solid_is_saved_in_its_one_file(rt: HostRuntime) -> Result<(), Fail> {
+    let alloc = rt.alloc();
+    let mut shelf = no_files(alloc);
+    let script = "input a 2 / save a evm f / toggle a 0 0 2 3 / save a evm f / show a";
+    let (status, output) = run_over(alloc, lines_of(alloc, script)?.into_bytes(), &mut shelf)?;
+    let wanted = lines_of(
+        alloc,
+        "ok 0 / ok 16 / ok 1 / ok 48 / ok 2 4 / 0 0 / 0 3 / 2 0 / 2 3",
+    )?;
+    assert_eq!(rt; str::from_utf8(output.bytes()), Ok(wanted.as_str()));
+    assert_eq!(rt; status, Status::Done);
+    assert_eq!(rt; shelf.get(b"f"), Some(BOX_FILE));
+    Ok(())
+}
+
+/// Scripts that save equal solids, made in different ways, in the files `f` and `g`, and the replies.
+const EQUAL_SOLIDS: [(&str, &str); 3] = [
+    (
+        "input a 2 / add a 0 0 2 1 / save a evm f / input b 2 / add b 0 0 1 1 / add b 1 0 2 1 / save b evm g",
+        "ok 0 / ok 1 / ok 48 / ok 0 / ok 1 / ok 1 / ok 48",
+    ),
+    (
+        "input r 2 / add r 0 0 3 3 / cut r 1 1 2 2 / input s 2 / add s 0 0 3 1 / add s 0 2 3 3 / add s 0 1 1 2 / add s 2 1 3 2 / save r evm f / save s evm g / input t 2 / load t evm f / boundary t / load t evm g",
+        "ok 0 / ok 1 / ok 1 / ok 0 / ok 1 / ok 1 / ok 1 / ok 1 / ok 80 / ok 80 / ok 0 / ok 1 / ok 16 / ok 0",
+    ),
+    (
+        "input a 2 / add a 0 0 2 3 / def c swap a 1 2 / def e swap c 1 2 / save a evm f / save e evm g",
+        "ok 0 / ok 1 / ok 0 / ok 0 / ok 48 / ok 48",
+    ),
+];
+
+#[test]
+fn equal_solids_have_equal_files(rt: HostRuntime) -> Result<(), Fail> {
+    let alloc = rt.alloc();
+    for (script, replies) in EQUAL_SOLIDS {
+        let mut shelf = no_files(alloc);
+        let (status, output) = run_over(alloc, lines_of(alloc, script)?.into_bytes(), &mut shelf)?;
+        let wanted = lines_of(alloc, replies)?;
+        assert_eq!(rt;
+            str::from_utf8(output.bytes()),
+            Ok(wanted.as_str()),
+            "at {script}"
+        );
+        assert_eq!(rt; status, Status::Done, "at {script}");
+        assert_eq!(rt; shelf.get(b"f").is_some(), true, "at {script}");
+        assert_eq!(rt; shelf.get(b"f"), shelf.get(b"g"), "at {script}");
+    }
+    Ok(())
+}
+
+/// Files, scripts that load them, and the replies.
+const LOADED: [(&[u8], &str, &str); 10] = [
+    (
+        BOX_FILE,
+        "input a 2 / def c or a a / load a evm f / show a / load a evm f",
+        "ok 0 / ok 0 / ok 2 / ok 2 4 / 0 0 / 0 3 / 2 0 / 2 3 / ok 0",
+    ),
+    (
+        b"evm-boxes 1 2\n0 0 1 3\n1 0 2 1\n1 2 2 3\n2 0 3 3\n",
+        "input a 2 / load a boxes f / content a / boundary a / point a 1 1 / at a 1 1",
+        "ok 0 / ok 1 / ok 8 / ok 16 / ok boundary / ok empty",
+    ),
+    (
+        b"evm-boxes 1 2\r\n# two rooms\r\n0 0 2 2\r\n1 1 3 3\r\n",
+        "input a 2 / load a boxes f / content a",
+        "ok 0 / ok 1 / ok 7",
+    ),
+    (
+        b"\tevm-boxes  1 2 \n\n \t\n  # a box\n -1\t0 1 1",
+        "input a 2 / load a boxes f / show a",
+        "ok 0 / ok 1 / ok 2 4 / -1 0 / -1 1 / 1 0 / 1 1",
+    ),
+    (
+        b"evm-boxes 1 2\n",
+        "input a 2 / add a 0 0 1 1 / load a boxes f / content a",
+        "ok 0 / ok 1 / ok 1 / ok 0",
+    ),
+    (
+        b"P5\n# scan\n2 2\n255\n\0\xc8\xc8\0",
+        "input a 2 / load a pgm 128 f / content a / show a",
+        "ok 0 / ok 1 / ok 2 / ok 2 6 / 0 1 / 0 2 / 1 0 / 1 2 / 2 0 / 2 1",
+    ),
+    (
+        b"P5 1 1 65535\n\x01\0",
+        "input a 2 / load a pgm 256 f / content a / load a pgm 257 f / content a",
+        "ok 0 / ok 1 / ok 1 / ok 1 / ok 0",
+    ),
+    (
+        b"P5 2 1 255\n\xc8\0\nP5 2 1 255\n\xc8\xc8\n",
+        "input a 3 / load a pgm 128 f / content a / boundary a",
+        "ok 0 / ok 1 / ok 3 / ok 14",
+    ),
+    (
+        b"YUV4MPEG2 W2 H2 F25:1 Ip A1:1 C420jpeg XYSCSS=420JPEG\nFRAME\n\xff\0\0\0\x80\x80FRAME\n\xff\xff\0\0\x80\x80",
+        "input a 3 / load a y4m 128 f / content a / boundary a / show a",
+        "ok 0 / ok 1 / ok 3 / ok 14 / ok 3 12 / 0 0 0 / 0 0 2 / 0 1 0 / 0 1 2 / 1 0 0 / 1 0 1 / 1 1 0 / 1 1 1 / 2 0 1 / 2 0 2 / 2 1 1 / 2 1 2",
+    ),
+    (
+        b"YUV4MPEG2 W2 H2 Cmono\n",
+        "input a 3 / add a 0 0 0 1 1 1 / load a y4m 128 f / content a",
+        "ok 0 / ok 1 / ok 1 / ok 0",
+    ),
+];
+
+#[test]
+fn a_load_puts_the_solid_of_a_file_in_place_of_the_input(rt: HostRuntime) -> Result<(), Fail> {
+    let alloc = rt.alloc();
+    for (bytes, script, replies) in LOADED {
+        let mut shelf = shelf_of(alloc, bytes, NEVER)?;
+        let (status, output) = run_over(alloc, lines_of(alloc, script)?.into_bytes(), &mut shelf)?;
+        let wanted = lines_of(alloc, replies)?;
+        assert_eq!(rt;
+            str::from_utf8(output.bytes()),
+            Ok(wanted.as_str()),
+            "at {script}"
+        );
+        assert_eq!(rt; status, Status::Done, "at {script}");
+        assert_eq!(rt; shelf.get(b"f"), Some(bytes), "at {script}");
+    }
+    Ok(())
+}
+
+/// Forms, and files that are none of the form in dimension 2.
+const NO_FORM: [(&str, &[u8]); 21] = [
+    // A head without rows, and one that states more rows than any file has.
+    ("evm", b"NEVM\x01\x02\0\0\0\0\0\0\0\0\0\x04"),
+    ("evm", b"NEVM\x01\x02\0\0\xff\xff\xff\xff\xff\xff\xff\xff"),
+    // The last row is missing, stands twice, or the first two are exchanged.
+    (
+        "evm",
+        b"NEVM\x01\x02\0\0\0\0\0\0\0\0\0\x03\0\0\0\0\0\0\0\0\0\0\0\0\0\0\0\x03\0\0\0\x02\0\0\0\0",
+    ),
+    (
+        "evm",
+        b"NEVM\x01\x02\0\0\0\0\0\0\0\0\0\x05\0\0\0\0\0\0\0\0\0\0\0\0\0\0\0\x03\0\0\0\x02\0\0\0\0\0\0\0\x02\0\0\0\x03\0\0\0\x02\0\0\0\x03",
+    ),
+    (
+        "evm",
+        b"NEVM\x01\x02\0\0\0\0\0\0\0\0\0\x04\0\0\0\0\0\0\0\x03\0\0\0\0\0\0\0\0\0\0\0\x02\0\0\0\0\0\0\0\x02\0\0\0\x03",
+    ),
+    // Another dimension, another version, no head, and a byte too many.
+    ("evm", b"NEVM\x01\x03\0\0\0\0\0\0\0\0\0\0"),
+    ("evm", b"NEVM\x02\x02\0\0\0\0\0\0\0\0\0\0"),
+    ("evm", b"NEVM\x01\x02\0\0\0\0\0\0\0\0\0"),
+    ("evm", b"NEVM\x01\x02\0\0\0\0\0\0\0\0\0\0\0"),
+    // A line with too few numbers, an empty box, no first line, and another dimension.
+    (
+        "boxes",
+        b"evm-boxes 1 2\r\n# two rooms\r\n0 0 2\r\n1 1 3 3\r\n",
+    ),
+    (
+        "boxes",
+        b"evm-boxes 1 2\r\n# two rooms\r\n0 0 0 2\r\n1 1 3 3\r\n",
+    ),
+    ("boxes", b""),
+    ("boxes", b"# note\nevm-boxes 1 2\n"),
+    ("boxes", b"evm-boxes 1 3\n"),
+    // The last sample is missing, a second image, no image, and a sample of three bytes.
+    ("pgm 128", b"P5\n# scan\n2 2\n255\n\0\xc8\xc8"),
+    ("pgm 128", b"P5 2 1 255\n\xc8\0\nP5 2 1 255\n\xc8\xc8\n"),
+    ("pgm 128", b""),
+    ("pgm 128", b"P5 1 1 65536\n\0\x01\0"),
+    // Samples of ten bits, no frame, and two widths.
+    ("y4m 128", b"YUV4MPEG2 W2 H2 C420p10\n"),
+    ("y4m 128", b"YUV4MPEG2 W2 H2 Cmono\n"),
+    ("y4m 128", b"YUV4MPEG2 W2 W2 H2\n"),
+];
+
+#[test]
+fn a_file_of_another_form_is_refused(rt: HostRuntime) -> Result<(), Fail> {
+    let alloc = rt.alloc();
+    for (form, bytes) in NO_FORM {
+        let mut shelf = shelf_of(alloc, bytes, NEVER)?;
+        let script = format!(in alloc; "input a 2\nadd a 0 0 1 1\nload a {form} f\ncontent a\n")?;
+        let (status, output) = run_over(alloc, script.into_bytes(), &mut shelf)?;
+        assert_eq!(rt;
+            str::from_utf8(output.bytes()),
+            Ok("ok 0\nok 1\nno form\nok 1\n"),
+            "at {form} {bytes:?}"
+        );
+        assert_eq!(rt; status, Status::Refused, "at {form} {bytes:?}");
+        assert_eq!(rt; shelf.get(b"f"), Some(bytes), "at {form} {bytes:?}");
+    }
+    Ok(())
+}
+
+/// The number of the call that fails, scripts of which some lines are refused, and the replies. The file `f` is that of
+/// the box.
+const REFUSED: [(u64, &str, &str); 6] = [
+    (
+        0,
+        "input a 2 / add a 0 0 1 1 / load a evm f / content a / load a evm f / content a",
+        "ok 0 / ok 1 / no shelf / ok 1 / ok 1 / ok 6",
+    ),
+    (
+        0,
+        "input a 2 / save a evm f / load a evm f / content a",
+        "ok 0 / no shelf / ok 1 / ok 6",
+    ),
+    (
+        NEVER,
+        "input a 2 / add a 0 0 1 1 / load a evm none / content a / save a evm none / load a evm none",
+        "ok 0 / ok 1 / no missing / ok 1 / ok 48 / ok 0",
+    ),
+    // Nothing is fetched where a line is refused before.
+    (
+        0,
+        "input a 2 / input d 4 / def c or a a / load zz evm f / load c evm f / load d pgm 1 f / load a pgm 65536 f / load a y4m -1 f / save zz evm f / load a evm f / load a evm f",
+        "ok 0 / ok 0 / ok 0 / no name / no kind / no dim / no range / no range / no name / no shelf / ok 2",
+    ),
+    (
+        NEVER,
+        "input d 3 / load d evm f / input a 2 / def s shift a 524287 0 / load a evm f / show a",
+        "ok 0 / no form / ok 0 / ok 0 / no range / ok 2 0",
+    ),
+    (
+        NEVER,
+        "input a 2 / load a evm / load a evm .f / load a evm -f / load a evm a/f / load a boxes 1 f / load a pgm f / load a y4m x f / save a boxes f / save a evm / load a evm f",
+        "ok 0 / no syntax / no syntax / no syntax / no syntax / no syntax / no syntax / no syntax / no syntax / no syntax / ok 1",
+    ),
+];
+
+#[test]
+fn a_refused_load_or_save_changes_nothing(rt: HostRuntime) -> Result<(), Fail> {
+    let alloc = rt.alloc();
+    for (failing, script, replies) in REFUSED {
+        let mut shelf = shelf_of(alloc, BOX_FILE, failing)?;
+        let (status, output) = run_over(alloc, lines_of(alloc, script)?.into_bytes(), &mut shelf)?;
+        let wanted = lines_of(alloc, replies)?;
+        assert_eq!(rt;
+            str::from_utf8(output.bytes()),
+            Ok(wanted.as_str()),
+            "at {script}"
+        );
+        assert_eq!(rt; status, Status::Refused, "at {script}");
+        assert_eq!(rt; shelf.get(b"f"), Some(BOX_FILE), "at {script}");
+    }
+    Ok(())
+}
+
+#[test]
+fn a_line_whose_reply_is_cut_has_saved_its_file(rt: HostRuntime) -> Result<(), Fail> {
+    let alloc = rt.alloc();
+    let words = words_of(alloc, &["evm", "run"])?;
+    let script = "input a 2\nsave a evm f\nsave a evm g\n";
+    let mut input = MemSource::new(bytes_of(alloc, script)?, PIECE, Vec::new(alloc));
+    let mut output = MemSink::new(alloc, 64, vec![in alloc; 1u64]?)?;
+    let mut shelf = shelf_of(alloc, BOX_FILE, NEVER)?;
+    let status = evm_main(alloc, words.as_slice(), &mut input, &mut output, &mut shelf);
+    assert_eq!(rt; status, Status::WriteFault);
+    assert_eq!(rt; str::from_utf8(output.bytes()), Ok("ok 0\n"));
+    assert_eq!(rt;
+        shelf.get(b"f"),
+        Some(b"NEVM\x01\x02\0\0\0\0\0\0\0\0\0\0".as_slice())
+    );
+    assert_eq!(rt; shelf.get(b"g"), None);
+    Ok(())
+}
