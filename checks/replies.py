@@ -6,8 +6,10 @@
 """
 import pathlib
 import re
+import shutil
 import subprocess
 import sys
+import tempfile
 
 TOP = pathlib.Path(__file__).resolve().parent.parent
 DOCUMENTS = [TOP / "README.md", *sorted((TOP / "docs").glob("*.md"))]
@@ -15,8 +17,10 @@ BLOCK = re.compile(r"^```evm\n(.*?)^```", re.M | re.S)
 
 
 def replies(script: str) -> str:
-    """What `evm run` writes for a script; it runs in the folder of the examples, where their files are."""
-    done = subprocess.run([str(TOP / "evm"), "run"], input=script.encode(), capture_output=True, cwd=TOP / "examples")
+    """What `evm run` writes for a script; it runs in a copy of the folder of the examples, so that it finds their files and may save its own."""
+    with tempfile.TemporaryDirectory() as folder:
+        shutil.copytree(TOP / "examples", folder, dirs_exist_ok=True)
+        done = subprocess.run([str(TOP / "evm"), "run"], input=script.encode(), capture_output=True, cwd=folder)
     if done.returncode not in (0, 1):
         return f"exit status {done.returncode}: {done.stderr.decode(errors='replace')}"
     return done.stdout.decode()

@@ -1,0 +1,41 @@
+#!/usr/bin/env python3
+"""The Python driver of the examples: what it prints by itself, from another folder, and the replies of each example through it."""
+import pathlib
+import subprocess
+import sys
+
+TOP = pathlib.Path(__file__).resolve().parent.parent
+EXAMPLES = TOP / "examples"
+sys.path.insert(0, str(EXAMPLES))
+import driver  # noqa: E402
+
+PRINTED = "boxes: 3\narea of their union: 64\nperimeter: 44\n"
+
+
+def main() -> int:
+    passed = failed = 0
+    done = subprocess.run([sys.executable, str(EXAMPLES / "driver.py")], cwd="/", capture_output=True, text=True)
+    trials = [("examples/driver.py", done.stdout + done.stderr, PRINTED)]
+    for script in sorted(EXAMPLES.glob("*.evm")):
+        try:
+            pairs = list(driver.replies(script.read_text().splitlines(), EXAMPLES))
+            got = "".join(f"{line}\n" for _, reply in pairs for line in reply)
+        except RuntimeError as fault:
+            got = f"{fault}\n"
+        trials.append((f"examples/{script.name} through the driver", got, script.with_suffix(".out").read_text()))
+    # More than the pipes hold, in both directions.
+    many = [f"toggle a {2 * k} 0 {2 * k + 1} 1" for k in range(2000)]
+    rows = sum(len(reply) - 1 for _, reply in driver.replies(["input a 2", *many, *["show a"] * 4]))
+    trials.append(("a long script through the driver", f"{rows} rows\n", f"{4 * 4 * 2000} rows\n"))
+    for name, got, wanted in trials:
+        if got == wanted:
+            passed += 1
+        else:
+            failed += 1
+            print(f"{name}: wanted\n{wanted}but got\n{got}")
+    print(f"driver: {passed} passed, {failed} failed")
+    return 1 if failed or not passed else 0
+
+
+if __name__ == "__main__":
+    sys.exit(main())
