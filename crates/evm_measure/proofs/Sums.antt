@@ -41,7 +41,7 @@ face_sum n ((h, c) ∷ cs) = length (cells n c) + face_sum n cs
 
 -- ---- sums over numbers in a row
 
-sum_run : (g : ℤ → ℕ) (a : ℤ) (d m v : ℕ) → ((k : ℤ) → a ≤ℤ k → k <ℤ (a +ℤ pos d) → g k ≡ v) → sum_by g (ints a (d + m)) ≡ v * d + sum_by g (ints (a +ℤ pos d) m)
+pub sum_run : (g : ℤ → ℕ) (a : ℤ) (d m v : ℕ) → ((k : ℤ) → a ≤ℤ k → k <ℤ (a +ℤ pos d) → g k ≡ v) → sum_by g (ints a (d + m)) ≡ v * d + sum_by g (ints (a +ℤ pos d) m)
 unfolding ints
 sum_run g a zero m v e =
     ap₂ (λ (j : ℕ) (z : ℤ). sum_by g (ints z j)) (zero-add m) (let q : a ≡ a +ℤ pos 0 = omega (arith, int_facts) in q) ∙ omega arith
@@ -56,7 +56,7 @@ sum_run g a (suc d) m v e =
 
 -- ---- the bound
 
-length-ints : (a : ℤ) (m : ℕ) → length (ints a m) ≡ m
+pub length-ints : (a : ℤ) (m : ℕ) → length (ints a m) ≡ m
 unfolding ints
 length-ints a zero = refl
 length-ints a (suc m) = ap suc (length-ints (a +ℤ pos 1) m)
@@ -86,7 +86,7 @@ filter-shorter t (x ∷ xs) = at (t x) (filter-shorter t xs)
     at true h = omega arith
     at false h = omega arith
 
-wide : (n : ℕ) → 2 * limit n ≡ 1048576
+pub wide : (n : ℕ) → 2 * limit n ≡ 1048576
 unfolding limit
 wide n = refl
 

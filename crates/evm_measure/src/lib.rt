@@ -1,26 +1,22 @@
 //! Content and boundary content of a view, by recursion on its dimension.
 #![tactic(auto)]
 
-ghost use Rattle.std.specs.Prelude.{◌≡◌, ◌-ℤ◌, unsigned_abs, IfOk, if◌then◌else◌};
+ghost use Rattle.std.specs.Prelude.{◌≡◌, IfOk};
 ghost use Rattle.evm_cells.specs.Vertices.{cells};
 ghost use Rattle.evm_cells.specs.Measures.{content, boundary};
 ghost use Rattle.evm_rows.specs.View.{vertices_of};
 
-use evm_rows::{NoMemory, Rows, Solid, xor_into};
+mod line;
+mod plane;
+mod section;
+
+use crate::line::counted;
+use crate::plane::{Rooms, measure_plane};
+use crate::section::section_after;
+use evm_rows::{NoMemory, Rows, Solid};
 use evm_sections::Walk;
 use evm_sections::marks::Marks;
 use std::alloc::Global;
-
-// How far the heights are apart, if a run is between them.
-fn counted(on: bool, low: i32, high: i32) -> u128
-    ensures { result ≡ (if on then unsigned_abs (high -ℤ low) else 0) }
-{
-    if on {
-        u128::from(high.abs_diff(low))
-    } else {
-        0
-    }
-}
 
 // The length of the runs of a view of dimension 1.
 fn runs(a: Rows<'_>) -> u128
@@ -32,7 +28,7 @@ fn runs(a: Rows<'_>) -> u128
     let mut low = 0i32;
     let mut total = 0u128;
     while let Some(high) = walk.height() {
-        total += counted(on, low, high);
+        total += u128::from(counted(on, low, high));
         walk.step();
         on = !on;
         low = high;
@@ -43,17 +39,30 @@ fn runs(a: Rows<'_>) -> u128
 /// The content: the number of unit cells. It is at most `2^120`.
 ///
 /// It is the sum, over the slabs between neighbouring cuts of the first axis, of the content of the section times the height of
-/// the slab (Aguilera and Ayala 1997; in n dimensions Pérez-Aguila). In dimension 1 it is the length of the runs.
+/// the slab (Aguilera and Ayala 1997; in n dimensions Pérez-Aguila). In dimension 1 it is the length of the runs. In dimension 2
+/// the length of the section is kept from slab to slab, and changed by what its couplet changes within the couplet's span.
 ///
 /// One walk over the couplets, and for each slab the content of its section, of one dimension less. Each level of this recursion
-/// holds two sections, flat lists of `i32` whose rooms are used in turn, so it allocates only while they grow. No couplet is
-/// copied. The one error is want of memory.
+/// holds two sections, flat lists of `i32` whose rooms are used in turn, those of dimension 1 by all slabs, so it allocates only
+/// while they grow. No couplet is copied. The one error is want of memory.
 pub fn content(alloc: Global, a: Rows<'_>) -> Result<u128, NoMemory>
+    ensures { IfOk result (λ n. n ≡ content (cells (vertices_of a.entry).dim (vertices_of a.entry).rows)) }
+{
+    let mut rooms = Rooms::new(alloc);
+    content_in(alloc, a, &mut rooms)
+}
+
+// The content, in rooms for the sections of planes.
+fn content_in(alloc: Global, a: Rows<'_>, rooms: &mut Rooms) -> Result<u128, NoMemory>
     ensures { IfOk result (λ n. n ≡ content (cells (vertices_of a.entry).dim (vertices_of a.entry).rows)) }
 {
     let dim = a.dim();
     if dim == 1 {
         return Ok(runs(a));
+    }
+    if dim == 2 {
+        let measures = measure_plane(alloc, a, rooms)?;
+        return Ok(measures.content);
     }
     let mut walk = Walk::of(a);
     let mut section = Solid::empty(alloc, dim - 1);
@@ -61,9 +70,9 @@ pub fn content(alloc: Global, a: Rows<'_>) -> Result<u128, NoMemory>
     let mut low = 0i32;
     let mut total = 0u128;
     while let Some((high, couplet)) = walk.next_couplet() {
-        let part = content(alloc, section.rows())?;
+        let part = content_in(alloc, section.rows(), rooms)?;
         total += part * u128::from(high.abs_diff(low));
-        let next = xor_into(room, section.rows(), couplet)?;
+        let next = section_after(room, section.rows(), couplet)?;
         room = section;
         section = next;
         low = high;
@@ -83,9 +92,21 @@ pub fn content(alloc: Global, a: Rows<'_>) -> Result<u128, NoMemory>
 pub fn boundary(alloc: Global, a: Rows<'_>) -> Result<u128, NoMemory>
     ensures { IfOk result (λ n. n ≡ boundary (vertices_of a.entry).dim (cells (vertices_of a.entry).dim (vertices_of a.entry).rows)) }
 {
+    let mut rooms = Rooms::new(alloc);
+    boundary_in(alloc, a, &mut rooms)
+}
+
+// The boundary content, in rooms for the sections of planes.
+fn boundary_in(alloc: Global, a: Rows<'_>, rooms: &mut Rooms) -> Result<u128, NoMemory>
+    ensures { IfOk result (λ n. n ≡ boundary (vertices_of a.entry).dim (cells (vertices_of a.entry).dim (vertices_of a.entry).rows)) }
+{
     let dim = a.dim();
     if dim == 1 {
         return Ok(a.len() as u128);
+    }
+    if dim == 2 {
+        let measures = measure_plane(alloc, a, rooms)?;
+        return Ok(measures.boundary);
     }
     let mut walk = Walk::of(a);
     let mut section = Solid::empty(alloc, dim - 1);
@@ -93,10 +114,10 @@ pub fn boundary(alloc: Global, a: Rows<'_>) -> Result<u128, NoMemory>
     let mut low = 0i32;
     let mut total = 0u128;
     while let Some((high, couplet)) = walk.next_couplet() {
-        let along = boundary(alloc, section.rows())?;
-        let across = content(alloc, couplet)?;
+        let along = boundary_in(alloc, section.rows(), rooms)?;
+        let across = content_in(alloc, couplet, rooms)?;
         total += along * u128::from(high.abs_diff(low)) + across;
-        let next = xor_into(room, section.rows(), couplet)?;
+        let next = section_after(room, section.rows(), couplet)?;
         room = section;
         section = next;
         low = high;

@@ -25,5 +25,5 @@ loop-high-preserved c =
       single = rw c.step.ensures (single_rest c.loop-high.walk inv.single);
       fits = inv.fits;
       so_far = rw (c.step.ensures, same32 c.in-Some.high fits)
-          (run_more _ c.in-Some.high c.loop-high.on c.loop-high.walk c.loop-high.total c.counted-total.result _ inv.single c.in-Some.ensures (rw (same32 c.in-Some.high fits) at c.counted-total.ensures) inv.so_far);
+          (run_more _ c.in-Some.high c.loop-high.on c.loop-high.walk c.loop-high.total c.from-total.result _ inv.single c.in-Some.ensures (c.from-total.ensures ∙ (rw (same32 c.in-Some.high fits) at c.counted.ensures)) inv.so_far);
     }

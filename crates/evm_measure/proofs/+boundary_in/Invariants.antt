@@ -3,10 +3,10 @@ use Rattle.evm_cells.specs.Vertices.{cells}
 use Rattle.evm_cells.specs.Measures.{boundary}
 use Rattle.evm_rows.specs.Rows.{rows_of}
 use Rattle.evm_measure.proofs.Sums.{slab_sum, face_sum}
-use Rattle.evm_measure.proofs.+boundary.Given as goal
+use Rattle.evm_measure.proofs.+boundary_in.Given as goal
 
-abbrev pub decreases-boundary : goal.decreases-boundary
-decreases-boundary l = l.a.width - l.a.skip
+abbrev pub decreases-boundary_in : goal.decreases-boundary_in
+decreases-boundary_in l = l.a.width - l.a.skip
 
 abbrev pub invariant-loop-high : goal.invariant-loop-high
 invariant-loop-high l = record {

@@ -3,10 +3,10 @@ use Rattle.evm_cells.specs.Vertices.{cells}
 use Rattle.evm_cells.specs.Measures.{content}
 use Rattle.evm_rows.specs.Rows.{rows_of}
 use Rattle.evm_measure.proofs.Sums.{slab_sum}
-use Rattle.evm_measure.proofs.+content.Given as goal
+use Rattle.evm_measure.proofs.+content_in.Given as goal
 
-abbrev pub decreases-content : goal.decreases-content
-decreases-content l = l.a.width - l.a.skip
+abbrev pub decreases-content_in : goal.decreases-content_in
+decreases-content_in l = l.a.width - l.a.skip
 
 abbrev pub invariant-loop-high : goal.invariant-loop-high
 invariant-loop-high l = record {

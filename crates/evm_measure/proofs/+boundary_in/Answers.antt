@@ -1,7 +1,7 @@
 use Rattle.std.proofs.Common.{◌≡◌, ◌-◌, ◌∙◌, arith, zero-add}
 use Rattle.evm_rows.specs.Rows.{rows_of}
 use Rattle.evm_measure.proofs.Sums.{boundary_is_at, boundary-fits, boundary-one_at}
-use Rattle.evm_measure.proofs.+boundary.Goals as goal
+use Rattle.evm_measure.proofs.+boundary_in.Goals as goal
 
 pub loop-high-init : goal.loop-high-init
 loop-high-init t c =

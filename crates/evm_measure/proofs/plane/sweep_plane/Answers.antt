@@ -1,0 +1,25 @@
+use Rattle.std.proofs.Common.{◌≡◌, ◌-◌, sym, ap, ◌∙◌, arith, length, List, ℤ, zero-add, refl, []}
+use Rattle.evm_cells.specs.Vertices.{IsVertexList, cells}
+use Rattle.evm_cells.proofs.Layers.{cells-empty}
+use Rattle.evm_rows.specs.Rows.{rows_of}
+use Rattle.evm_rows.proofs.RowsLaws.{rows_of-none}
+use Rattle.evm_boolean.proofs.LineSteps.{none_rows}
+use Rattle.evm_measure.proofs.Sums.{content_is_at, content-fits, boundary_is_at, boundary-fits}
+use Rattle.evm_measure.proofs.plane.sweep_plane.Goals as goal
+
+pub loop-high-init : goal.loop-high-init
+loop-high-init c =
+    let a = c.args.a in
+    let two : a.width - a.skip ≡ 2 = c.requires in
+    let v : IsVertexList 2 (rows_of a.flat.now a.width a.skip) = rw two at a.vertices in
+    let nothing : length c.take_line-line.result.items ≡ 0 = ap length c.take_line-line.ensures in
+    let none : rows_of c.take_line-line.result.items 1 0 ≡ [] = rows_of-none c.take_line-line.result.items 1 0 nothing in
+    record {
+      dims = omega (arith, c.of-walk.ensures.dim, two);
+      line_is = none_rows c.take_line-line.result.items nothing;
+      long = sym (ap (λ (V : List (List ℤ)). length (cells 1 V)) none ∙ ap length (cells-empty 1));
+      fits = content-fits 2 (rows_of a.flat.now a.width a.skip) (omega arith);
+      faces_fit = boundary-fits 2 (rows_of a.flat.now a.width a.skip) (omega arith);
+      so_far = zero-add _ ∙ rw none (content_is_at 2 1 (rows_of a.flat.now a.width a.skip) _ c.of-walk.result.left refl v c.of-walk.ensures.left);
+      faces_so_far = zero-add _ ∙ rw none (boundary_is_at 2 1 (rows_of a.flat.now a.width a.skip) _ c.of-walk.result.left refl v c.of-walk.ensures.left);
+    }
