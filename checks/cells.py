@@ -436,20 +436,16 @@ def main():
         sys.stdout.write(replies(sys.stdin.read(), sys.argv[1]))
         return 0
     import replies as stored
-    passed = failed = large = 0
+    from tally import Tally
+    tally, large = Tally("cells"), 0
     for name, script, wanted in stored.cases():
         try:
             got = replies(script, TOP / "examples")
         except TooLarge:
             large += 1
             continue
-        if got == wanted:
-            passed += 1
-        else:
-            failed += 1
-            print(f"{name}: the stored replies are\n{wanted}but cells give\n{got}")
-    print(f"cells: {passed} scripts as stored, {failed} not, {large} too large to count")
-    return 1 if failed or not passed else 0
+        tally.count(got == wanted, f"{name}: the stored replies are\n{wanted}but cells give\n{got}")
+    return tally.status(f", {large} too large to count")
 
 
 if __name__ == "__main__":

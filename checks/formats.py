@@ -14,6 +14,8 @@ import sys
 import tempfile
 import zlib
 
+from tally import Tally
+
 TOP = pathlib.Path(__file__).resolve().parent.parent
 TEXT = (TOP / "docs" / "FORMATS.md").read_text()
 WIDTH, HEIGHT, IMAGES, THRESHOLD = 10, 7, 3, 100
@@ -95,7 +97,7 @@ def main() -> int:
         "a volume of numpy": (volume, importlib.util.find_spec("numpy")),
         "the rows of an EVM file": (rows_of_file, True),
     }
-    passed = failed = 0
+    tally = Tally("formats")
     for name, (tried, installed) in trials.items():
         if not installed:
             continue
@@ -104,11 +106,8 @@ def main() -> int:
                 got, wanted = tried(folder)
         except NotHere:
             continue
-        passed, failed = passed + (got == wanted), failed + (got != wanted)
-        if got != wanted:
-            print(f"docs/FORMATS.md, {name}: wanted\n{wanted}but got\n{got}")
-    print(f"formats: {passed} passed, {failed} failed, {len(trials) - passed - failed} not installed")
-    return 1 if failed or not passed else 0
+        tally.compare(f"docs/FORMATS.md, {name}", got, wanted)
+    return tally.status(f", {len(trials) - tally.passed - tally.failed} not installed")
 
 
 if __name__ == "__main__":

@@ -9,6 +9,8 @@ import sys
 
 import cells
 
+from tally import Tally
+
 TOP = pathlib.Path(__file__).resolve().parent.parent
 GALLERY = TOP / "docs" / "gallery"
 sys.path.insert(0, str(GALLERY))
@@ -25,33 +27,25 @@ def by_cells(commands, folder):
 
 
 def main() -> int:
-    passed = failed = 0
-
-    def count(good: bool, fault: str):
-        nonlocal passed, failed
-        passed, failed = passed + good, failed + (not good)
-        if not good:
-            print(fault)
-
+    tally = Tally("gallery")
     scripts = sorted(path.stem for path in GALLERY.glob("*.evm"))
-    count(scripts == sorted(draw.PICTURES), f"docs/gallery has the scripts {scripts}, draw.py draws {sorted(draw.PICTURES)}")
+    tally.count(scripts == sorted(draw.PICTURES), f"docs/gallery has the scripts {scripts}, draw.py draws {sorted(draw.PICTURES)}")
     for name in draw.PICTURES:
         script = (GALLERY / f"{name}.evm").read_text().splitlines()
         try:
             got = list(draw.replies(script, draw.EXAMPLES))
         except RuntimeError as fault:
-            count(False, f"docs/gallery/{name}.evm: {fault}")
+            tally.count(False, f"docs/gallery/{name}.evm: {fault}")
             continue
         wanted = list(by_cells(script, draw.EXAMPLES))
         first = next((f"{a[0]}: {a[1][0]}, where cells give {b[1][0]}" for a, b in zip(got, wanted) if a != b), "other replies")
-        count(got == wanted, f"docs/gallery/{name}.evm: {first}")
+        tally.count(got == wanted, f"docs/gallery/{name}.evm: {first}")
         if all(reply[0].startswith("ok") for _, reply in got):
             svg, stands = draw.PICTURES[name](dict(got)).svg(), GALLERY / f"{name}.svg"
-            count(stands.is_file() and stands.read_text() == svg, f"docs/gallery/{name}.svg is not what draw.py makes")
+            tally.count(stands.is_file() and stands.read_text() == svg, f"docs/gallery/{name}.svg is not what draw.py makes")
         else:
-            count(False, f"docs/gallery/{name}.svg: a line was refused, so there is nothing to draw")
-    print(f"gallery: {passed} passed, {failed} failed")
-    return 1 if failed or not passed else 0
+            tally.count(False, f"docs/gallery/{name}.svg: a line was refused, so there is nothing to draw")
+    return tally.status()
 
 
 if __name__ == "__main__":

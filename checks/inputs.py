@@ -3,21 +3,19 @@
 import pathlib
 import sys
 
+from tally import Tally
+
 EXAMPLES = pathlib.Path(__file__).resolve().parent.parent / "examples"
 sys.path.insert(0, str(EXAMPLES))
 from make_inputs import inputs  # noqa: E402
 
 
 def main() -> int:
-    passed = failed = 0
+    tally = Tally("inputs")
     for name, data in inputs().items():
-        if (EXAMPLES / name).is_file() and (EXAMPLES / name).read_bytes() == data:
-            passed += 1
-        else:
-            failed += 1
-            print(f"examples/{name} is not what examples/make_inputs.py makes")
-    print(f"inputs: {passed} passed, {failed} failed")
-    return 1 if failed or not passed else 0
+        same = (EXAMPLES / name).is_file() and (EXAMPLES / name).read_bytes() == data
+        tally.count(same, f"examples/{name} is not what examples/make_inputs.py makes")
+    return tally.status()
 
 
 if __name__ == "__main__":

@@ -9,6 +9,8 @@ import subprocess
 import sys
 import tempfile
 
+from tally import Tally
+
 TOP = pathlib.Path(__file__).resolve().parent.parent
 WIDTH, HEIGHT, FRAMES, THRESHOLD = 10, 7, 3, 100
 
@@ -49,27 +51,25 @@ def netpbm(folder: pathlib.Path) -> tuple[str, str]:
     return script_and_replies("pgm", "scan.pgm", 2, filled(1))
 
 
-def passes(make) -> bool:
+def answered(make) -> tuple[str, str]:
+    """What the program answers to a script over a file that another program makes, and what it has to."""
     with tempfile.TemporaryDirectory() as name:
         script, wanted = make(pathlib.Path(name))
         done = subprocess.run([str(TOP / "evm"), "run"], input=script, capture_output=True, text=True, cwd=name)
-    if done.stdout != wanted:
-        print(f"{make.__name__}: wanted\n{wanted}but got\n{done.stdout}{done.stderr}")
-    return done.stdout == wanted
+    return done.stdout + done.stderr, wanted
 
 
 def main() -> int:
     makers = [make for tool, make in (("ffmpeg", ffmpeg), ("rawtopgm", netpbm)) if shutil.which(tool)]
-    passed = failed = 0
+    tally = Tally("other programs")
     for make in makers:
         try:
-            good = passes(make)
+            got, wanted = answered(make)
         except subprocess.CalledProcessError as fault:
             print(f"{make.__name__} does not work here: {fault}")
             continue
-        passed, failed = passed + good, failed + (not good)
-    print(f"other programs: {passed} passed, {failed} failed, {2 - passed - failed} not installed")
-    return 1 if failed else 0
+        tally.compare(make.__name__, got, wanted)
+    return tally.status(f", {2 - tally.passed - tally.failed} not installed", may_be_none=True)
 
 
 if __name__ == "__main__":

@@ -4,6 +4,8 @@ import pathlib
 import subprocess
 import sys
 
+from tally import Tally
+
 TOP = pathlib.Path(__file__).resolve().parent.parent
 EXAMPLES = TOP / "examples"
 sys.path.insert(0, str(EXAMPLES))
@@ -13,7 +15,7 @@ PRINTED = "boxes: 3\narea of their union: 64\nperimeter: 44\n"
 
 
 def main() -> int:
-    passed = failed = 0
+    tally = Tally("driver")
     done = subprocess.run([sys.executable, str(EXAMPLES / "driver.py")], cwd="/", capture_output=True, text=True)
     trials = [("examples/driver.py", done.stdout + done.stderr, PRINTED)]
     for script in sorted(EXAMPLES.glob("*.evm")):
@@ -28,13 +30,8 @@ def main() -> int:
     rows = sum(len(reply) - 1 for _, reply in driver.replies(["input a 2", *many, *["show a"] * 4]))
     trials.append(("a long script through the driver", f"{rows} rows\n", f"{4 * 4 * 2000} rows\n"))
     for name, got, wanted in trials:
-        if got == wanted:
-            passed += 1
-        else:
-            failed += 1
-            print(f"{name}: wanted\n{wanted}but got\n{got}")
-    print(f"driver: {passed} passed, {failed} failed")
-    return 1 if failed or not passed else 0
+        tally.compare(name, got, wanted)
+    return tally.status()
 
 
 if __name__ == "__main__":

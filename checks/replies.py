@@ -11,6 +11,8 @@ import subprocess
 import sys
 import tempfile
 
+from tally import Tally
+
 TOP = pathlib.Path(__file__).resolve().parent.parent
 DOCUMENTS = [TOP / "README.md", *sorted((TOP / "docs").glob("*.md"))]
 BLOCK = re.compile(r"^```evm\n(.*?)^```", re.M | re.S)
@@ -38,16 +40,10 @@ def cases():
 
 
 def main() -> int:
-    passed = failed = 0
+    tally = Tally("examples")
     for name, script, wanted in cases():
-        got = replies(script)
-        if got == wanted:
-            passed += 1
-        else:
-            failed += 1
-            print(f"{name}: wanted\n{wanted}but got\n{got}")
-    print(f"examples: {passed} passed, {failed} failed")
-    return 1 if failed or not passed else 0
+        tally.compare(name, replies(script), wanted)
+    return tally.status()
 
 
 if __name__ == "__main__":
