@@ -1,17 +1,17 @@
--- The EVM file, version 1: the one list of bytes that a solid is kept as (this project's own format).
-use Rattle.std.specs.Prelude.{◌≡◌, ℕ, ◌+◌, ◌*◌, ◌<◌, ◌≤◌, ◌^◌, ◌↔◌, true, List, [], ◌∷◌, ◌++◌, flat_map, length, take, drop, slice_index, ℤ}
-use Rattle.std.specs.List.{list_all}
+-- The EVM file, version 1: what its bytes state (this project's own format).
+use Rattle.std.specs.Prelude.{◌≡◌, ℕ, ◌+◌, ◌*◌, ◌<◌, ◌≤◌, ◌^◌, ◌↔◌, List, [], ◌∷◌, ◌++◌, flat_map, length, take, drop, slice_index, ℤ}
 use Rattle.std.specs.Int.{cast_unsigned, cast_signed, w32}
 use Rattle.byteorder.specs.Endian.{big_bytes, big_number}
-use Rattle.evm_cells.specs.Places.{ascending}
-use Rattle.evm_cells.specs.Limits.{is_point, IsCellSet}
+use Rattle.evm_cells.specs.Limits.{IsCellSet}
 use Rattle.evm_cells.specs.Vertices.{evm}
+use Rattle.evm_cells.specs.Boxes.{box_cells}
+use Rattle.evm_cells.specs.Examples.{plane}
 use Rattle.evm_rows.specs.Rows.{Vertices, IsSolid, cells_of, flat_of, rows_of}
-use Rattle.evm_rows.specs.Check.{IsFirstOut, IsFirstFall, IsLeastOdd}
+use Rattle.evm_rows.specs.Check.{IsRefusal}
 use Rattle.evm_rows.specs.declared.check.RowError.{RowError}
 use Rattle.evm_rows.specs.declared.check.RowError.TheVariants as rows
-use Rattle.evm_file.specs.declared.FileError.{FileError}
-use Rattle.evm_file.specs.declared.FileError.TheVariants.{Head, Length, Range, Order, Odd, NoMemory}
+use Rattle.evm_formats.specs.declared.file.FileError.{FileError}
+use Rattle.evm_formats.specs.declared.file.FileError.TheVariants.{Head, Length, Range, Order, Odd, NoMemory}
 
 -- ---- what is written
 
@@ -68,13 +68,17 @@ IsFramed bytes = IsHeaded bytes × HasLength bytes
 abbrev pub stated_rows : List ℕ → List (List ℤ)
 stated_rows bytes = rows_of (numbers (drop 16 bytes)) (stated_dim bytes) 0
 
+-- e is the first refusal of the rows that the bytes state
+abbrev pub RefusesRows : List ℕ → RowError → Type 0
+RefusesRows bytes e = IsFramed bytes × IsRefusal (stated_dim bytes) (stated_rows bytes) e
+
 -- e is the first refusal of the bytes (this project's own order of tests)
 abbrev pub IsFileRefusal : List ℕ → FileError → Type 0
 IsFileRefusal bytes Head = ¬ IsHeaded bytes
 IsFileRefusal bytes Length = IsHeaded bytes × (¬ HasLength bytes)
-IsFileRefusal bytes (Range k) = IsFramed bytes × IsFirstOut (stated_dim bytes) (stated_rows bytes) k
-IsFileRefusal bytes (Order k) = IsFramed bytes × (list_all (is_point (stated_dim bytes)) (stated_rows bytes) ≡ true) × IsFirstFall (stated_rows bytes) k
-IsFileRefusal bytes (Odd a) = IsFramed bytes × (list_all (is_point (stated_dim bytes)) (stated_rows bytes) ≡ true) × (ascending (stated_rows bytes) ≡ true) × IsLeastOdd (stated_dim bytes) (stated_rows bytes) a
+IsFileRefusal bytes (Range k) = RefusesRows bytes (rows.Range k)
+IsFileRefusal bytes (Order k) = RefusesRows bytes (rows.Order k)
+IsFileRefusal bytes (Odd a) = RefusesRows bytes (rows.Odd a)
 IsFileRefusal bytes NoMemory = ⊥
 
 -- the refusal of a file for a refusal of its rows
@@ -100,12 +104,38 @@ pub record IsSolidCells (n : ℕ) (S : List (List ℤ)) : Type 0 where
 
 -- two solids have equal files exactly if they have one dimension and the same cells
 abbrev pub SolidsByFiles : Type 0
-SolidsByFiles = (v w : Vertices) → IsSolid v → IsSolid w → (file_bytes v ≡ file_bytes w) ↔ ((v.dim ≡ w.dim) × (cells_of v ≡ cells_of w))
+SolidsByFiles = (v w : Vertices) → IsSolid v → IsSolid w
+    → (file_bytes v ≡ file_bytes w) ↔ ((v.dim ≡ w.dim) × (cells_of v ≡ cells_of w))
 
 -- two cell sets have equal files exactly if they are equal and of one dimension
 abbrev pub CellsByFiles : Type 0
-CellsByFiles = (n m : ℕ) (S T : List (List ℤ)) → IsSolidCells n S → IsSolidCells m T → (file_of_cells n S ≡ file_of_cells m T) ↔ ((n ≡ m) × (S ≡ T))
+CellsByFiles = (n m : ℕ) (S T : List (List ℤ)) → IsSolidCells n S → IsSolidCells m T
+    → (file_of_cells n S ≡ file_of_cells m T) ↔ ((n ≡ m) × (S ≡ T))
 
--- fewer than 2 ^ 64 bytes are the file of a solid exactly if they have a header and the length that it states, and state that solid
+-- fewer than 2 ^ 64 numbers below 256
+pub record AreBytes (bytes : List ℕ) : Type 0 where
+  pub small : (i : ℕ) → slice_index bytes i < 256
+  pub few : length bytes < 2 ^ 64
+
+-- bytes are the file of a solid exactly if they have a header and the length that it states, and state that solid
 abbrev pub FilesByStatement : Type 0
-FilesByStatement = (bytes : List ℕ) (v : Vertices) → ((i : ℕ) → slice_index bytes i < 256) → length bytes < 2 ^ 64 → IsSolid v → (bytes ≡ file_bytes v) ↔ States bytes v
+FilesByStatement = (bytes : List ℕ) (v : Vertices) → AreBytes bytes → IsSolid v → (bytes ≡ file_bytes v) ↔ States bytes v
+
+-- bytes have at most one first refusal
+abbrev pub OneFileRefusal : Type 0
+OneFileRefusal = (bytes : List ℕ) (e f : FileError) → IsFileRefusal bytes e → IsFileRefusal bytes f → e ≡ f
+
+-- the file of a solid has none
+abbrev pub FilesAreNotRefused : Type 0
+FilesAreNotRefused = (v : Vertices) (e : FileError) → IsSolid v → length (file_bytes v) < 2 ^ 64 → ¬ IsFileRefusal (file_bytes v) e
+
+-- ---- a worked file
+
+-- the fields of small numbers that are not negative
+abbrev pub small_fields : List ℕ → List ℕ
+small_fields = flat_map (λ x. 0 ∷ 0 ∷ 0 ∷ x ∷ [])
+
+-- the file of the box from (0, 0) to (2, 3): a header of dimension 2 and four rows, and its corners
+abbrev pub FileOfSix : Type 0
+FileOfSix = file_of_cells 2 (box_cells 2 (plane 0 0) (plane 2 3))
+    ≡ 0x4E ∷ 0x45 ∷ 0x56 ∷ 0x4D ∷ 1 ∷ 2 ∷ 0 ∷ 0 ∷ 0 ∷ 0 ∷ 0 ∷ 0 ∷ 0 ∷ 0 ∷ 0 ∷ 4 ∷ small_fields (0 ∷ 0 ∷ 0 ∷ 3 ∷ 2 ∷ 0 ∷ 2 ∷ 3 ∷ [])

@@ -1,16 +1,16 @@
 -- Bytes are the bytes of the number that they read as, and numbers are read back from their fields.
-use Rattle.std.proofs.Common.{◌≡◌, ℕ, zero, suc, ◌+◌, ◌*◌, ◌/◌, ◌%◌, ◌^◌, ◌<◌, ◌≤◌, List, [], ◌∷◌, ◌++◌, flat_map, length, take, drop, slice_index, ℤ, SFits, w32, to_z-of_z, rules, Bool, true, refl, sym, ap, ap₂, ◌∙◌, arith, length-drop, length-append, append_assoc}
+use Rattle.std.proofs.Common.{◌≡◌, ℕ, zero, suc, ◌+◌, ◌*◌, ◌/◌, ◌%◌, ◌^◌, ◌<◌, ◌≤◌, List, [], ◌∷◌, ◌++◌, flat_map, length, take, drop, slice_index, ℤ, SFits, w32, to_z-of_z, rules, true, refl, sym, ap, ap₂, ◌∙◌, arith, length-drop, length-append}
 use Rattle.std.proofs.Math.Nat.{mul-add-div_right, mul-add-mod_self_right, mod-eq_of_lt, mul_assoc, add-zero, div-eq_of_lt, one-le-pow, pow-succ', div-one}
 use Rattle.std.specs.Int.{byte_at, bytes_high_first, cast_unsigned, cast_signed}
 use Rattle.std.specs.List.{list_all}
 use Rattle.std.proofs.lemmas.Int.{of_z-to_z, ints as int_facts}
 use Rattle.std.proofs.lemmas.List.{nil_from_length, get_or-drop, take-append-drop, drop_at}
 use Rattle.byteorder.specs.Endian.{big_from, big_number, big_bytes}
-use Rattle.byteorder.specs.Numbers.{big_from-take, big_from-cons, big_from-lt, big_number-reads_back, length-bytes_high_first}
+use Rattle.byteorder.specs.Numbers.{big_from-cons, big_from-lt, big_number-reads_back, length-bytes_high_first}
 use Rattle.evm_cells.specs.Limits.{is_point_coord, limit}
 use Rattle.evm_cells.proofs.Coords.{point_is}
 use Rattle.evm_cells.proofs.Xor.{and_first, and_second}
-use Rattle.evm_file.specs.File.{field, numbers}
+use Rattle.evm_formats.specs.File.{field, numbers}
 
 pow_pos : (n : ℕ) → 0 < 256 ^ n
 pow_pos n = let h = one-le-pow n 256 (omega arith) in omega arith
@@ -56,14 +56,13 @@ pub field_of_number : (xs : List ℕ) → 4 ≤ length xs → ((i : ℕ) → sli
 field_of_number xs l h =
     ap (big_bytes 4) (of_z-to_z w32 (big_number 4 xs) (let s = big_from-lt 0 4 xs h in omega arith)) ∙ bytes_of_number 4 xs l h
 
--- within the limits of some dimension
-abbrev pub fits : ℤ → Bool
-fits = is_point_coord 1
-
--- a coordinate in the limits fits 32 bits
-fits_is : (z : ℤ) → fits z ≡ true → SFits w32 z
+-- a coordinate in the limits of a dimension fits 32 bits
+limit-fits : (n : ℕ) → limit n < 2 ^ 31
 unfolding limit
-fits_is z h = let (a, b) = point_is 1 z h in search (rules, int_facts)
+limit-fits n = omega arith
+
+fits_is : (n : ℕ) (z : ℤ) → is_point_coord n z ≡ true → SFits w32 z
+fits_is n z h = let (a, b) = point_is n z h in let l = limit-fits n in search (rules, int_facts)
 
 of_z-below : (z : ℤ) → SFits w32 z → cast_unsigned w32 z < 256 ^ 4
 of_z-below z f = omega (arith, int_facts, f)
@@ -108,21 +107,14 @@ pub length-field : (z : ℤ) → length (field z) ≡ 4
 length-field z = length-bytes_high_first 4 (cast_unsigned w32 z)
 
 -- numbers are read back from their fields
-pub numbers-fields : (zs : List ℤ) → list_all fits zs ≡ true → numbers (flat_map field zs) ≡ zs
-numbers-fields [] a = numbers-nil
-numbers-fields (z ∷ zs) a =
-    let f : SFits w32 z = fits_is z (and_first (fits z) (list_all fits zs) a) in
+pub numbers-fields : (n : ℕ) (zs : List ℤ) → list_all (is_point_coord n) zs ≡ true → numbers (flat_map field zs) ≡ zs
+numbers-fields n [] a = numbers-nil
+numbers-fields n (z ∷ zs) a =
+    let f : SFits w32 z = fits_is n z (and_first (is_point_coord n z) (list_all (is_point_coord n) zs) a) in
     let low : cast_unsigned w32 z < 256 ^ 4 = of_z-below z f in
     let l : 4 ≤ length (field z ++ flat_map field zs) = omega (arith, length-append (field z) (flat_map field zs), length-field z) in
     numbers-step (field z ++ flat_map field zs) l
     ∙ ap₂ (λ (x : ℤ) (xs : List ℤ). x ∷ xs)
     (ap (cast_signed w32) (big_number-reads_back 4 (cast_unsigned w32 z) (flat_map field zs) low) ∙ to_z-of_z f)
-    (ap numbers (drop_at (field z) (flat_map field zs) 4 (length-field z)) ∙ numbers-fields zs (and_second (fits z) (list_all fits zs) a))
-
--- one more field is read
-pub read_more : (body rest front after : List ℕ) (out new : List ℤ) (x : ℤ) → 4 ≤ length rest → front ≡ take 4 rest → after ≡ drop 4 rest → x ≡ cast_signed w32 (big_number 4 front) → new ≡ out ++ x ∷ []
-    → out ++ numbers rest ≡ numbers body → new ++ numbers after ≡ numbers body
-read_more body rest front after out new x l f a e n h =
-    let v : x ≡ cast_signed w32 (big_number 4 rest) = e ∙ ap (λ (xs : List ℕ). cast_signed w32 (big_number 4 xs)) f ∙ ap (cast_signed w32) (big_from-take 0 4 4 rest (omega arith)) in
-    ap₂ (λ (o : List ℤ) (r : List ℕ). o ++ numbers r) n a ∙ append_assoc out (x ∷ []) (numbers (drop 4 rest))
-    ∙ ap (λ (zs : List ℤ). out ++ zs) (ap (λ (z : ℤ). z ∷ numbers (drop 4 rest)) v ∙ sym (numbers-step rest l)) ∙ h
+    (ap numbers (drop_at (field z) (flat_map field zs) 4 (length-field z))
+    ∙ numbers-fields n zs (and_second (is_point_coord n z) (list_all (is_point_coord n) zs) a))

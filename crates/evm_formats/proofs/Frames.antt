@@ -1,12 +1,11 @@
 -- The file of a solid states it, and bytes with a header and its length are the file of what they state.
-use Rattle.std.proofs.Common.{◌≡◌, ℕ, ◌+◌, ◌-◌, ◌*◌, ◌%◌, ◌^◌, ◌<◌, ◌≤◌, true, List, [], ◌∷◌, ◌++◌, flat_map, length, take, drop, slice_index, ℤ, refl, sym, ap, ap₂, ◌∙◌, arith, length-drop, length-append, append-nil, mul-le-mul_right}
+use Rattle.std.proofs.Common.{◌≡◌, ℕ, ◌+◌, ◌*◌, ◌%◌, ◌^◌, ◌<◌, ◌≤◌, true, List, [], ◌∷◌, ◌++◌, flat_map, length, take, drop, slice_index, ℤ, refl, sym, ap, ap₂, ◌∙◌, arith, length-drop, length-append, mul-le-mul_right}
 use Rattle.std.proofs.Math.Nat.{mul_assoc, mul_comm, mul-mod_left}
 use Rattle.std.specs.List.{list_all}
-use Rattle.std.proofs.lemmas.List.{take-append-drop, take_all, take_at, drop_at, drop_all, drop-drop, get_or-drop}
-use borrow.Rule.Slice.PartMut.{post_of}
+use Rattle.std.proofs.lemmas.List.{take-append-drop, drop_at, drop-drop, get_or-drop}
 use Rattle.byteorder.specs.Endian.{big_number, big_bytes}
 use Rattle.byteorder.specs.Numbers.{big_number-reads_back, length-bytes_high_first}
-use Rattle.evm_cells.specs.Limits.{is_point, is_point_coord, limit}
+use Rattle.evm_cells.specs.Limits.{is_point, is_point_coord}
 use Rattle.evm_cells.proofs.Xor.{and_first, and_second, and_both}
 use Rattle.evm_cells.proofs.Lists.{all-append}
 use Rattle.evm_cells.proofs.Universe.{point_parts}
@@ -15,8 +14,8 @@ use Rattle.evm_rows.proofs.Bridge.{wide-points}
 use Rattle.evm_rows.proofs.RowsOrder.{rows_of-flat_of, length-flat_of}
 use Rattle.evm_rows.proofs.RowsPlaces.{length-rows_of, quotient}
 use Rattle.evm_rows.proofs.Solids.{flat_of-rows_of}
-use Rattle.evm_file.specs.File.{field, head_bytes, file_bytes, numbers, IsHeaded, HasLength, stated_dim, stated_count, stated_rows, States}
-use Rattle.evm_file.proofs.Bytes.{bytes_of_number, fields-numbers, length-numbers, length-field, numbers-fields, fits}
+use Rattle.evm_formats.specs.File.{field, head_bytes, file_bytes, numbers, IsHeaded, HasLength, stated_dim, stated_count, stated_rows, States}
+use Rattle.evm_formats.proofs.Fields.{bytes_of_number, fields-numbers, length-numbers, length-field, numbers-fields}
 
 -- the vertices that bytes state
 abbrev pub stated : List ℕ → Vertices
@@ -78,18 +77,19 @@ file_is bytes h l small =
 
 -- ---- the file of a solid states it
 
-length-fields : (zs : List ℤ) → length (flat_map field zs) ≡ 4 * length zs
+pub length-fields : (zs : List ℤ) → length (flat_map field zs) ≡ 4 * length zs
 length-fields [] = refl
 length-fields (z ∷ zs) = length-append (field z) (flat_map field zs) ∙ omega (arith, length-field z, length-fields zs)
 
-fits_flat : (n : ℕ) (rs : List (List ℤ)) → list_all (is_point n) rs ≡ true → list_all fits (flat_of rs) ≡ true
-unfolding is_point_coord limit
+fits_flat : (n : ℕ) (rs : List (List ℤ)) → list_all (is_point n) rs ≡ true → list_all (is_point_coord n) (flat_of rs) ≡ true
 fits_flat n [] a = refl
 fits_flat n (r ∷ rs) a =
-    all-append fits r (flat_of rs)
-    ∙ and_both (list_all fits r) (list_all fits (flat_of rs)) (point_parts n r (and_first (is_point n r) (list_all (is_point n) rs) a)).1 (fits_flat n rs (and_second (is_point n r) (list_all (is_point n) rs) a))
+    all-append (is_point_coord n) r (flat_of rs)
+    ∙ and_both (list_all (is_point_coord n) r) (list_all (is_point_coord n) (flat_of rs))
+    (point_parts n r (and_first (is_point n r) (list_all (is_point n) rs) a)).1
+    (fits_flat n rs (and_second (is_point n r) (list_all (is_point n) rs) a))
 
-eight : (k : ℕ) → length (big_bytes 8 k) ≡ 8
+pub eight : (k : ℕ) → length (big_bytes 8 k) ≡ 8
 eight k = length-bytes_high_first 8 k
 
 -- a file tells its rows, however many
@@ -99,7 +99,7 @@ rows_of_file v s =
     let n = v.dim in
     let points : list_all (is_point n) v.rows ≡ true = s.vertices.points in
     ap (λ (xs : List ℕ). rows_of (numbers xs) n 0) (drop_at (big_bytes 8 (length v.rows)) (flat_map field (flat_of v.rows)) 8 (eight (length v.rows)))
-    ∙ ap (λ (zs : List ℤ). rows_of zs n 0) (numbers-fields (flat_of v.rows) (fits_flat n v.rows points))
+    ∙ ap (λ (zs : List ℤ). rows_of zs n 0) (numbers-fields n (flat_of v.rows) (fits_flat n v.rows points))
     ∙ rows_of-flat_of n v.rows s.low (wide-points n v.rows points)
 
 pub dim_of_file : (v : Vertices) → stated_dim (file_bytes v) ≡ v.dim
@@ -127,18 +127,3 @@ states_file v s small =
 
 pub states : (v : Vertices) (bytes : List ℕ) → IsSolid v → length bytes < 2 ^ 64 → bytes ≡ file_bytes v → States bytes v
 states v bytes s small e = rw e (states_file v s (rw e at small))
-
--- ---- what is written
-
--- a header, and the fields put in the place of the zeros after it
-pub written : (v : Vertices) (n L : ℕ) (flat : List ℤ) (head start zeros d body rest : List ℕ) → flat ≡ flat_of v.rows → head ≡ head_bytes v.dim ++ big_bytes 8 (length v.rows) → start ≡ head
-    → d ≡ take n start ++ zeros → body ≡ flat_map field flat → n ≡ 16 + 4 * length flat → L ≡ n → take L ((take 16 d ++ (body ++ post_of 16 (length d - 16) d)) ++ rest) ≡ file_bytes v
-unfolding file_bytes
-written v n L flat head start zeros d body rest f h s e b m l =
-    let long : length head ≡ 16 = ap length h ∙ ap (λ (k : ℕ). 8 + k) (eight (length v.rows)) in
-    let kept : take n start ≡ head = ap (take n) s ∙ take_all n head (omega (arith, long, m)) in
-    let front : take 16 d ≡ head = ap (take 16) (e ∙ ap (λ (xs : List ℕ). xs ++ zeros) kept) ∙ take_at head zeros 16 long in
-    let none : post_of 16 (length d - 16) d ≡ [] = drop_all (length d - 16) (drop 16 d) (omega (arith, length-drop 16 d)) in
-    let size : length (head ++ body) ≡ L = length-append head body ∙ omega (arith, long, ap length b ∙ length-fields flat, m, l) in
-    ap (take L) (ap₂ (λ (a c : List ℕ). (a ++ c) ++ rest) front (ap (λ (p : List ℕ). body ++ p) none ∙ append-nil body))
-    ∙ take_at (head ++ body) rest L size ∙ ap₂ (λ (a c : List ℕ). a ++ c) h (b ∙ ap (flat_map field) f)

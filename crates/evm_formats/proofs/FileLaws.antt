@@ -1,11 +1,12 @@
 -- Files tell solids and cell sets apart.
 use Rattle.std.proofs.Common.{◌≡◌, ℕ, List, ℤ, sym, ap, ap₂, ◌∙◌}
+use Rattle.evm_cells.proofs.Examples.{box_of_six}
 use Rattle.evm_cells.specs.Vertices.{evm, IsVertexList}
 use Rattle.evm_cells.proofs.Core.{vertices-evm, cells-evm, evm-cells}
 use Rattle.evm_rows.specs.Rows.{Vertices, IsSolid, cells_of}
 use Rattle.evm_rows.proofs.Solids.{same_cells}
-use Rattle.evm_file.specs.File.{file_bytes, file_of_cells, stated_dim, stated_rows, IsSolidCells, SolidsByFiles, CellsByFiles, FilesByStatement}
-use Rattle.evm_file.proofs.Frames.{file_is, rows_of_file, dim_of_file, states, stated}
+use Rattle.evm_formats.specs.File.{file_bytes, file_of_cells, stated_dim, stated_rows, IsSolidCells, SolidsByFiles, CellsByFiles, FilesByStatement, FileOfSix}
+use Rattle.evm_formats.proofs.Frames.{file_is, rows_of_file, dim_of_file, states, stated}
 
 -- vertices of one dimension with the same rows
 pub one_solid : (v w : Vertices) → v.dim ≡ w.dim → v.rows ≡ w.rows → v ≡ w
@@ -43,10 +44,15 @@ cell_sets n m S T s t = (
 )
 
 pub statement : FilesByStatement
-statement bytes v small short s = (
-  λ e. states v bytes s short e,
-  λ h. file_is bytes h.framed.0 h.framed.1 small ∙ ap file_bytes (one_solid (stated bytes) v h.dim h.rows),
+statement bytes v are s = (
+  λ e. states v bytes s are.few e,
+  λ h. file_is bytes h.framed.0 h.framed.1 are.small ∙ ap file_bytes (one_solid (stated bytes) v h.dim h.rows),
 )
+
+-- the worked file
+pub file_of_six : FileOfSix
+unfolding file_bytes
+file_of_six = ap (λ (rows : List (List ℤ)). file_bytes (record { dim = 2; rows = rows })) box_of_six.1
 
 -- a file of a solid is that of its cells
 pub on_cells : (bytes : List ℕ) (v : Vertices) → IsVertexList v.dim v.rows → bytes ≡ file_bytes v → bytes ≡ file_of_cells v.dim (cells_of v)
