@@ -1,4 +1,2 @@
-pub mod Bytes
-pub mod Frames
-pub mod Laws
-pub mod FileRefusals
+pub mod Reading
+pub mod Writing

@@ -1,9 +1,10 @@
 use Rattle.std.proofs.Common.{rules, arith, inl, inr, ap, sym, ◌∙◌, false, IsTrue}
-use Rattle.evm_file.specs.File.{file_bytes}
-use Rattle.evm_file.specs.declared.FileError.TheVariants.{Head, Length}
-use Rattle.evm_file.proofs.Frames.{file_is, whole_stated}
-use Rattle.evm_file.proofs.Laws.{on_cells}
-use Rattle.evm_file.proofs.FileRefusals.{answer_err, refused_of, found_of, found_on_cells, same_solid, ok_denies}
+use Rattle.evm_formats.specs.File.{file_bytes}
+use Rattle.evm_formats.specs.declared.file.FileError.TheVariants.{Head, Length}
+use Rattle.evm_formats.proofs.Frames.{file_is, whole_stated}
+use Rattle.evm_formats.proofs.FileLaws.{on_cells}
+use Rattle.evm_formats.proofs.FileRefusals.{ok_denies}
+use Rattle.evm_file.proofs.Reading.{answer_err, refused_of, found_of, found_on_cells, same_solid}
 use Rattle.evm_file.proofs.read.Goals as goal
 
 pub returns-then-not-is_headed-clause-found : goal.returns-then-not-is_headed-clause-found

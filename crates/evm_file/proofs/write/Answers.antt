@@ -1,8 +1,8 @@
 use Rattle.std.proofs.Common.{◌≡◌, ◌++◌, ◌+◌, ◌*◌, List, ℕ, refl, ap, ap₂, ◌∙◌, length}
 use Rattle.byteorder.specs.Endian.{big_bytes}
-use Rattle.evm_file.specs.File.{head_bytes}
-use Rattle.evm_file.proofs.Frames.{written}
-use Rattle.evm_file.proofs.Laws.{on_cells}
+use Rattle.evm_formats.specs.File.{head_bytes}
+use Rattle.evm_file.proofs.Writing.{written}
+use Rattle.evm_formats.proofs.FileLaws.{on_cells}
 use Rattle.evm_file.proofs.write.Goals as goal
 
 pub returns-clause-file : goal.returns-clause-file
