@@ -1,5 +1,5 @@
 -- The worked examples. What speaks of a list of all cells or points is first moved to a small window.
-use Rattle.std.proofs.Common.{◌≡◌, ℕ, not, ◌&&◌, ◌||◌, List, [], ◌∷◌, ℤ, pos, negsuc, refl, sym, ap, ap₂, ◌∙◌, arith}
+use Rattle.std.proofs.Common.{◌≡◌, not, ◌&&◌, ◌||◌, List, [], ◌∷◌, ℤ, pos, negsuc, refl, sym, ap, ap₂, ◌∙◌, arith}
 use Rattle.evm_cells.specs.Places.{has, same, each, before, ascending, is_empty, without}
 use Rattle.evm_cells.specs.Limits.{limit, ints, tuples, is_cell, is_point, is_cell_coord, is_point_coord, IsCellSet}
 use Rattle.evm_cells.specs.Booleans.{xor, or_cells, and_cells, sub_cells, xor_cells}

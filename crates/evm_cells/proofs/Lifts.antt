@@ -1,9 +1,9 @@
 -- Cell sets that lose or gain an axis, and their extreme vertices.
-use Rattle.std.proofs.Common.{◌≡◌, ℕ, zero, suc, ◌+◌, ◌<◌, ◌≤◌, Bool, true, false, cond, ◌&&◌, ◌||◌, List, [], ◌∷◌, length, map, filter, count_by, get_or, ℤ, pos, negsuc, neg_ℤ, ◌+ℤ◌, ◌-ℤ◌, ◌≤ℤ◌, ◌<ℤ◌, refl, sym, ap, ap₂, ◌∙◌, arith, int_le, int_lt, int_eq, ⊎_elim}
+use Rattle.std.proofs.Common.{◌≡◌, ℕ, zero, suc, ◌<◌, ◌≤◌, Bool, true, false, cond, ◌&&◌, ◌||◌, List, [], ◌∷◌, length, filter, count_by, ℤ, pos, negsuc, neg_ℤ, ◌+ℤ◌, ◌-ℤ◌, ◌≤ℤ◌, ◌<ℤ◌, refl, sym, ap, ap₂, ◌∙◌, arith, int_le, int_lt, int_eq, ⊎_elim}
 use Rattle.std.specs.List.{list_all, list_any}
-use Rattle.std.proofs.lemmas.Bool.{true≢false, false≢true, or_cases, or_left, or_right}
+use Rattle.std.proofs.lemmas.Bool.{false≢true, or_cases, or_left, or_right}
 use Rattle.std.proofs.lemmas.Int.{ints as int_facts}
-use Rattle.evm_cells.specs.Places.{same, before, ascending, has, each, without, with_at}
+use Rattle.evm_cells.specs.Places.{same, has, each, without, with_at}
 use Rattle.evm_cells.specs.Limits.{limit, every_cell, cell_coords, is_cell, is_point, is_cell_coord, is_point_coord, IsCellSet}
 use Rattle.evm_cells.specs.Booleans.{xor, xor_cells}
 use Rattle.evm_cells.specs.Vertices.{evm, cells, touch, odd, IsVertexList}
@@ -12,13 +12,12 @@ use Rattle.evm_cells.specs.Shapes.{fronted, unfronted, front, proj, lift}
 use Rattle.evm_cells.proofs.Xor.{xsum, xsum-same_on, xor-and, and_first, and_second, and_both, and-false, and-true, odd-count}
 use Rattle.evm_cells.proofs.Sum.{xsum-none, xsum-xor}
 use Rattle.evm_cells.proofs.Order.{same_tests, refuted}
-use Rattle.evm_cells.proofs.Lists.{any_never}
 use Rattle.evm_cells.proofs.Coords.{eq_yes, eq_is, eq_no, le_yes, le_no, le_is, lt_yes, lt_no, lt_is, by_order, cell_is, cell_yes, point_is, any-cell_coords}
 use Rattle.evm_cells.proofs.Places.{strict_places, has-any}
-use Rattle.evm_cells.proofs.Universe.{absorb, guarded, cell_parts, cell_from, point_parts, same_sets, same_sym, member_passes, xsum-same_place, has-cells, cell_set-cells}
+use Rattle.evm_cells.proofs.Universe.{absorb, guarded, cell_parts, cell_from, point_parts, same_sets, member_passes, xsum-same_place, has-cells, cell_set-cells}
 use Rattle.evm_cells.proofs.Combine.{cell_set-filter, has-evm-xor}
 use Rattle.evm_cells.proofs.Core.{length-without, all-without, evm-cells}
-use Rattle.evm_cells.proofs.Slices.{coord, each-with_at, length-with_at, all-with_at, all-coord, has-slice, has-slice_of, cell_set-slice, cell_of_with_at, couplet_vertices, next_section}
+use Rattle.evm_cells.proofs.Slices.{coord, each-with_at, length-with_at, all-with_at, all-coord, has-slice, has-slice_of, cell_set-slice, couplet_vertices, next_section}
 use Rattle.evm_cells.proofs.Layers.{slice_outside, evm-empty, no_places}
 use Rattle.evm_cells.proofs.Moves.{has-moved}
 

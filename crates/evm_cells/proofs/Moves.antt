@@ -1,26 +1,26 @@
 -- Cell sets that are moved place by place, and how their extreme vertices move.
-use Rattle.std.proofs.Common.{◌≡◌, ℕ, zero, suc, ◌<◌, ◌≤◌, Bool, true, false, ◌&&◌, ◌||◌, ◌==◌, List, [], ◌∷◌, length, map, filter, get_or, set, ℤ, pos, negsuc, neg_ℤ, ◌+ℤ◌, ◌-ℤ◌, refl, sym, ap, ap₂, ◌∙◌, arith, int_le, int_lt, int_eq, eqb-true, eq-eqb, ⊎_elim}
+use Rattle.std.proofs.Common.{◌≡◌, ℕ, zero, suc, ◌<◌, Bool, true, false, ◌&&◌, ◌||◌, ◌==◌, List, [], ◌∷◌, length, map, filter, get_or, set, ℤ, pos, negsuc, neg_ℤ, ◌+ℤ◌, ◌-ℤ◌, refl, sym, ap, ap₂, ◌∙◌, arith, int_le, int_lt, int_eq, eqb-true, eq-eqb, ⊎_elim}
 use Rattle.std.specs.Prelude.{swap}
-use Rattle.std.specs.List.{list_all, list_any}
+use Rattle.std.specs.List.{list_all}
 use Rattle.std.proofs.lemmas.Bool.{true≢false, false≢true, or_cases, or_left, or_right}
 use Rattle.std.proofs.lemmas.Int.{ints as int_facts}
 use Rattle.std.proofs.lemmas.List.{get_or-set_same, get_or-set_other, length-set}
 use Rattle.std.proofs.lemmas.List.Edits.{swap_is, length-swap}
-use Rattle.evm_cells.specs.Places.{same, before, ascending, has, each, without, with_at}
-use Rattle.evm_cells.specs.Limits.{every_cell, is_cell, is_point, is_cell_coord, is_point_coord, limit, IsCellSet}
-use Rattle.evm_cells.specs.Vertices.{evm, cells, touch, odd, IsEven, IsVertexList}
-use Rattle.evm_cells.specs.Shapes.{added, shift, shift_fits, mirrored, mirror, negated, swap_axes, fronted, unfronted, front}
+use Rattle.evm_cells.specs.Places.{same, before, ascending, has, each, without}
+use Rattle.evm_cells.specs.Limits.{every_cell, is_cell, is_point, is_cell_coord, IsCellSet}
+use Rattle.evm_cells.specs.Vertices.{evm, cells, touch, IsVertexList}
+use Rattle.evm_cells.specs.Shapes.{added, shift, shift_fits, mirrored, mirror, negated, swap_axes}
 use Rattle.evm_cells.proofs.Xor.{xsum, xsum-same, xsum-same_on, and_first, and_second, and_both, odd-count}
 use Rattle.evm_cells.proofs.Sum.{xsum-map, xsum-filter, xsum-weigh}
 use Rattle.evm_cells.proofs.Order.{rising, same_tests, refuted, sift}
 use Rattle.evm_cells.proofs.Lists.{all-map, all_weaker, all_members}
-use Rattle.evm_cells.proofs.Coords.{eq_yes, eq_is, eq_no, split_touch, cell_is, cell_yes, le_is, le_yes, lt_is, lt_yes}
+use Rattle.evm_cells.proofs.Coords.{eq_yes, eq_is, cell_is, cell_yes, le_is, le_yes, lt_is, lt_yes}
 use Rattle.evm_cells.proofs.Places.{strict_places, ascending-rising, has-any}
-use Rattle.evm_cells.proofs.Universe.{ascending-filter, cell_parts, cell_from, point_parts, same_sets, same_sym, member_passes, xsum-same_place, has-every_cell, rising-every_cell, all-every_cell, ascending-evm, points-evm, cell_set-cells}
+use Rattle.evm_cells.proofs.Universe.{ascending-filter, cell_parts, cell_from, point_parts, same_sets, member_passes, xsum-same_place, has-every_cell, rising-every_cell, all-every_cell, ascending-evm, points-evm, cell_set-cells}
 use Rattle.evm_cells.proofs.Combine.{cell_set-filter}
-use Rattle.evm_cells.proofs.Core.{length-without, all-without, even_sum, evm-cells, has-evm_of, has-cells_even}
+use Rattle.evm_cells.proofs.Core.{even_sum, evm-cells, has-evm_of, has-cells_even}
 use Rattle.evm_cells.proofs.Layers.{all_and, filter_all}
-use Rattle.evm_cells.proofs.Slices.{coord, each-with_at, length-with_at, all-with_at, all-coord}
+use Rattle.evm_cells.proofs.Slices.{all-coord}
 
 has_of_length : (n : ℕ) (S : List (List ℤ)) (p : List ℤ) → list_all (λ q. length q == n) S ≡ true → (length p == n) ≡ false → has S p ≡ false
 has_of_length n S p a e = refuted (has S p) (λ m. true≢false (sym (member_passes (λ q. length q == n) S p a m) ∙ e))

@@ -9,3 +9,4 @@ pub mod Laws
 pub mod Examples
 pub mod Shapes
 pub mod ShapeLaws
+pub mod Windows
