@@ -14,6 +14,12 @@ class Tally:
     def compare(self, name: str, got: str, wanted: str):
         self.count(got == wanted, f"{name}: wanted\n{wanted}but got\n{got}")
 
+    def at_most(self, name: str, count: float, ceiling: float):
+        """A number that may only fall: checks/ceilings.txt has what it may be."""
+        self.count(count <= ceiling, f"{name}: {count:g}, where at most {ceiling:g} may be (checks/ceilings.txt)")
+        if count < ceiling:
+            print(f"{name}: {count:g}, so lower the ceiling of {ceiling:g} in checks/ceilings.txt")
+
     def status(self, rest: str = "", may_be_none: bool = False) -> int:
         """The exit status: 1 where a trial failed, or where there was none though there has to be one."""
         print(f"{self.title}: {self.passed} passed, {self.failed} failed{rest}")
