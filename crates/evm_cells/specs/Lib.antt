@@ -10,3 +10,4 @@ pub mod Examples
 pub mod Shapes
 pub mod ShapeLaws
 pub mod Windows
+pub mod Localities

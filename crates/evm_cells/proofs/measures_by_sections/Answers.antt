@@ -2,6 +2,7 @@ use Rattle.evm_cells.proofs.Layers.{content_by_sections}
 use Rattle.evm_cells.proofs.Counts.{boundary_by_sections}
 use Rattle.evm_cells.proofs.Neighbours.{around-neighbours, one_place}
 use Rattle.evm_cells.proofs.Bounds.{content_bound, boundary_bound, measures-fit}
+use Rattle.evm_cells.proofs.Localities.{measures_are_local}
 use Rattle.evm_cells.proofs.measures_by_sections.Goals as goal
 
 pub returns-clause-boundary : goal.returns-clause-boundary
@@ -24,3 +25,6 @@ returns-clause-boundary_bound c = boundary_bound
 
 pub returns-clause-measures_fit : goal.returns-clause-measures_fit
 returns-clause-measures_fit c = measures-fit
+
+pub returns-clause-local : goal.returns-clause-local
+returns-clause-local c = measures_are_local
