@@ -6,5 +6,7 @@
 #![tactic(auto)]
 
 mod file;
+mod voxels;
 
 pub use file::{FileError, files_determine_solids};
+pub use voxels::{Sampling, VoxelError};

@@ -1,0 +1,79 @@
+//! Voxel files: stacks of PGM images and Y4M mask videos.
+//!
+//! The sample in column x and row y of image z, all counted from 0, is the cell `(x, y)` in dimension 2 and `(x, y, z)` in
+//! dimension 3. It is filled exactly if the sample is at least the threshold; a sample above the maxval is compared as it
+//! stands. Both formats are this project's own profiles.
+//!
+//! # PGM stacks
+//!
+//! A file holds one image in dimension 2, and one or more of one size in dimension 3. An image is the letters `P5`; a
+//! separator, the width, a separator, the height, a separator, the maxval; a single white space byte; and the samples, rows
+//! from the top and each from left to right, of one byte where the maxval is below 256 and otherwise of two, the most
+//! significant first. A separator is one or more white space bytes (space, TAB, LF, VT, FF, CR) and comments, and a comment
+//! goes from `#` up to the next LF or CR. Numbers are decimal digits of any length. White space after an image is skipped.
+//!
+//! # Y4M streams
+//!
+//! A stream is a line of `YUV4MPEG2` and parameters, each after one space, and then frames. `W` and `H` stand exactly once,
+//! `C` at most once, and other parameters are skipped. A frame is `FRAME`, then LF or a space and any bytes up to LF, and
+//! its planes, luma first, of one byte a sample. Dimension 2 takes one frame, dimension 3 any number.
+//!
+//! | value of `C` | bytes after a luma plane of w times h samples |
+//! |---|---|
+//! | none, `420`, `420jpeg`, `420paldv`, `420mpeg2` | 2 times (w+1)/2 times (h+1)/2, halves rounded down |
+//! | `422` | 2 times (w+1)/2 times h, halves rounded down |
+//! | `444` | 2 times w times h |
+//! | `mono` | 0 |
+
+ghost use Rattle.std.specs.Prelude.{◌≡◌};
+ghost use Rattle.evm_formats.specs.declared.voxels.VoxelError.TheVariants.{NoMemory};
+
+use std::alloc::AllocError;
+use thiserror::Error;
+
+/// Why bytes are not a stack of images, or not a stream of frames.
+#[derive(Clone, Copy, Debug, PartialEq, Eq, Error)]
+pub enum VoxelError {
+    /// The letters that an image or a stream begins with do not stand there.
+    #[error("no magic of an image or a stream")]
+    Magic,
+    /// A header or a frame's line is not as stated, or a number in it is 0 or, of a maxval, above 65535.
+    #[error("no header as stated")]
+    Header,
+    /// Another number of images than the dimension takes, or images of two sizes.
+    #[error("the images are not of one size, or not as many as the dimension takes")]
+    Shape,
+    /// A width, a height or the number of an image past the limit of the dimension.
+    #[error("an image is past the limits")]
+    Range,
+    /// The bytes end before the last sample.
+    #[error("the bytes end before the last sample")]
+    Short,
+    /// A sampling that is not in the table.
+    #[error("a sampling that is not read")]
+    Kind,
+    /// There was no memory.
+    #[error("out of memory")]
+    NoMemory,
+}
+
+impl From<AllocError> for VoxelError {
+    ghost from_gives = { λ _ e. e ≡ NoMemory };
+
+    fn from(_e: AllocError) -> VoxelError {
+        VoxelError::NoMemory
+    }
+}
+
+/// How the planes after the luma are sampled.
+#[derive(Clone, Copy, Debug, PartialEq, Eq)]
+pub enum Sampling {
+    /// With half of the columns and half of the rows.
+    Quarter,
+    /// With half of the columns.
+    Half,
+    /// With all columns and rows.
+    Full,
+    /// Not at all: there are no other planes.
+    Mono,
+}
