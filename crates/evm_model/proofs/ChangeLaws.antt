@@ -2,19 +2,21 @@
 use Rattle.std.proofs.Common.{◌≡◌, ℕ, Bool, true, false, not, cond, ◌&&◌, List, [], ◌∷◌, Option, Some, None, ℤ, refl, sym, ap, ◌∙◌, subst, is_some, bytes_eq}
 use Rattle.std.specs.Prelude.{nat_abs}
 use Rattle.std.proofs.lemmas.Bool.{false≢true}
+use Rattle.evm_cells.proofs.Order.{refuted}
 use Rattle.evm_script.specs.declared.formula.Formula.{Formula}
 use Rattle.evm_model.specs.Figures.{Figure, nothing, same_figure}
 use Rattle.evm_model.specs.Orders.{is_among}
-use Rattle.evm_model.specs.Scene.{Scene, Entry, Given, Made, entry_of, stands, operands_of, formula_value, value, entry_value, is_read, with_entry, with_figure, with_new, formula_dim, IsWell}
+use Rattle.evm_model.specs.Scene.{Scene, Entry, Given, Made, entry_of, stands, operands_of, formula_value, value, entry_value, is_read, with_entry, with_figure, with_new, formula_dim, IsWell, IsOrderOf, entry_operands}
 use Rattle.evm_model.specs.Edits.{Edit, Input, Def, Drop, name_of, refusal, after, changed, changed_names}
 use Rattle.evm_model.proofs.Names.{by_name, by_test, not_both, or_left, neither, name_itself, among_none}
-use Rattle.evm_model.proofs.Lookups.{with_other, with_own, with_none, with_stands, without_own, push_own}
+use Rattle.evm_model.proofs.Lookups.{with_other, with_own, with_none, with_stands, without_own, push_own, length-with}
 use Rattle.evm_model.proofs.Levels.{value_unique, formula_same}
 use Rattle.evm_model.proofs.Counts.{changed_count}
 use Rattle.evm_model.proofs.FigureLaws.{same_itself}
-use Rattle.evm_model.proofs.WellScenes.{well_value, well_operands, value_dim, value_cells}
+use Rattle.evm_model.proofs.WellScenes.{well_value, well_order, value_dim, value_cells}
 use Rattle.evm_model.proofs.Stays.{IsAt, before_parts, at_edit, at_figure, value_stays, unread_unreached}
-use Rattle.evm_model.proofs.WellEdits.{IsOrderly, orderly_figure, unread}
+use Rattle.evm_model.proofs.WellEdits.{unread}
+use Rattle.evm_model.proofs.Orders.{ordered_less}
 use Rattle.evm_model.proofs.Refusals.{new_input, definition, drops}
 use Rattle.evm_model.proofs.EditLaws.{well_edit, others_stay, value_own}
 
@@ -60,7 +62,8 @@ drop_gone scene name well = ap (λ (t : Option Entry). is_some t) (without_own s
 pub same_keeps : (scene : Scene) (name other : List ℕ) → IsWell scene → value (with_figure scene name (value scene name)) other ≡ value scene other
 same_keeps scene name other well =
     by_test (stands scene name)
-    (λ h. sym (value_unique u left.order left.ordered left.whole left.size (value scene) (fixed h) other))
+    (λ h. sym (value_unique u order (ordered_less (operands_of scene.entries) (operands_of u.entries) [] order (λ x m o r. less h x o r) is.ordered)
+    (λ x. is.whole x ∙ sym (with_stands scene.entries name x entry refl)) (is.size ∙ sym (length-with scene.entries name entry)) (value scene) (fixed h) other))
     (λ h. ap (λ (s : Scene). value s other) (λ i. record { entries = with_none scene.entries name entry h i }))
   where
     entry : Entry
@@ -69,8 +72,17 @@ same_keeps scene name other well =
     u : Scene
     u = with_figure scene name (value scene name)
 
-    left : IsOrderly u
-    left = orderly_figure scene name (value scene name) well (value_dim scene well name) (value_cells scene well name)
+    order : List (List ℕ)
+    order = (well_order scene well).0
+
+    is : IsOrderOf scene order
+    is = (well_order scene well).1
+
+    less : stands scene name ≡ true → (x o : List ℕ) → is_among o (operands_of u.entries x) ≡ true → is_among o (operands_of scene.entries x) ≡ true
+    less h x o r =
+        by_name x name
+        (λ e. among_none o (subst (λ (t : Option Entry). is_among o (entry_operands t) ≡ true) (ap (λ (z : List ℕ). entry_of u.entries z) e ∙ with_own scene.entries name entry refl h) r))
+        (λ d. subst (λ (t : Option Entry). is_among o (entry_operands t) ≡ true) (with_other scene.entries name x entry refl d) r)
 
     fixed : stands scene name ≡ true → (x : List ℕ) → value scene x ≡ entry_value (entry_of u.entries x) (value scene)
     fixed h x =
@@ -104,7 +116,7 @@ unread_none s name u well at free gone =
 pub new_changes_none : (scene : Scene) (edit : Edit) → IsWell scene → stands scene (name_of edit) ≡ false → changed scene edit ≡ 0
 new_changes_none scene edit well fresh =
     unread_none scene (name_of edit) (after scene edit) well (at_edit scene edit)
-    (λ y. by_test (is_among (name_of edit) (operands_of scene.entries y)) (λ m. not_both (stands scene (name_of edit)) (well_operands scene well y (name_of edit) m) fresh) (λ m. m))
+    (λ y. refuted (is_among (name_of edit) (operands_of scene.entries y)) (λ m. not_both (stands scene (name_of edit)) (well.stand y (name_of edit) m) fresh))
     (λ h. not_both (stands scene (name_of edit)) h fresh)
 
 -- nor does one that takes it out

@@ -90,7 +90,7 @@ well_edit scene (Replace name figure) well fits r = well_replace scene name figu
 well_edit scene (Def name formula) well fits r = well_def scene name formula well r
 well_edit scene (Drop name) well fits r = let d = drops scene name r in well_without scene name well d.standing d.unread
 
--- an edit that is not refused leaves no formula that moves a cell out of the limits, whatever figure it states
+-- an edit that is not refused leaves no formula that makes a place out of the limits, whatever figure it states
 stay_edit : (scene : Scene) (edit : Edit) → IsWell scene → refusal scene edit ≡ None → all_stay (after scene edit) ≡ true
 stay_edit scene (Input name dim) well r = (well_edit scene (Input name dim) well tt r).stay
 stay_edit scene (Toggle name nums) well r = (box_for xor_of scene name nums r).stay
@@ -100,7 +100,7 @@ stay_edit scene (Replace name figure) well r = (replacement scene name figure r)
 stay_edit scene (Def name formula) well r = (definition scene name formula r).stay
 stay_edit scene (Drop name) well r = (well_edit scene (Drop name) well tt r).stay
 
--- an edit after which a formula would move a cell out of the limits is refused
+-- an edit after which a formula would make a place out of the limits is refused
 pub out_of_limits : (scene : Scene) (edit : Edit) → IsWell scene → all_stay (after scene edit) ≡ false → refusal scene edit ≡ None → ⊥
 out_of_limits scene edit well out r = not_both (all_stay (after scene edit)) (stay_edit scene edit well r) out
 

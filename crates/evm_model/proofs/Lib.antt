@@ -3,6 +3,7 @@ pub mod Levels
 pub mod Lookups
 pub mod Counts
 pub mod Orders
+pub mod OrderExists
 pub mod WellScenes
 pub mod Stays
 pub mod WellEdits

@@ -76,6 +76,16 @@ pub or_first : (a b : Bool) → (a || b) ≡ true → b ≡ false → a ≡ true
 or_first true b h d = refl
 or_first false b h d = absurd (false≢true (sym d ∙ h))
 
+-- another second of two
+pub or_map : (a b c : Bool) → (a || b) ≡ true → (b ≡ true → c ≡ true) → (a || c) ≡ true
+or_map true b c h f = refl
+or_map false b c h f = f h
+
+-- the two cases of one or the other
+pub by_or : {C : Type 0} (a b : Bool) → (a || b) ≡ true → (a ≡ true → C) → (b ≡ true → C) → C
+by_or true b h one two = one refl
+by_or false b h one two = two h
+
 pub or-false : (a : Bool) → (a || false) ≡ a
 or-false true = refl
 or-false false = refl
@@ -129,6 +139,15 @@ pub some_passes : (f : List ℕ → Bool) (xs : List (List ℕ)) (o : List ℕ) 
 some_passes f [] o m h = among_none o m
 some_passes f (x ∷ xs) o m h =
     by_among o x xs m (λ e. or_left (f x) (list_any f xs) (sym (ap f e) ∙ h)) (λ d k. or_right (f x) (list_any f xs) (some_passes f xs o k h))
+
+-- a test that passes each name of a list that another passes
+pub any_less : (f g : List ℕ → Bool) (xs : List (List ℕ)) → ((o : List ℕ) → is_among o xs ≡ true → f o ≡ true → g o ≡ true)
+    → list_any f xs ≡ true → list_any g xs ≡ true
+any_less f g [] less h = h
+any_less f g (x ∷ xs) less h =
+    by_or (f x) (list_any f xs) h
+    (λ k. or_left (g x) (list_any g xs) (less x (among_here x xs) k))
+    (λ k. or_right (g x) (list_any g xs) (any_less f g xs (λ o m. less o (among_later o x xs m)) k))
 
 -- the names of a list that pass a test
 pub among_kept : (p : List ℕ → Bool) (x : List ℕ) (xs : List (List ℕ)) → p x ≡ true → is_among x (filter p xs) ≡ is_among x xs

@@ -40,7 +40,7 @@ pub none_back : (cs ds : List (Bool × Code)) → first_cause (cs ++ ds) ≡ Non
 none_back [] ds e = e
 none_back (c ∷ cs) ds e = none_back cs ds (none_later c (cs ++ ds) e)
 
--- no formula of the scene that an edit leaves moves a cell out of the limits
+-- no formula of the scene that an edit leaves makes a place out of the limits
 pub stay_left : (cs : List (Bool × Code)) (left : Scene) → first_cause (cs ++ value_causes left) ≡ None → all_stay left ≡ true
 stay_left cs left r = not_false (all_stay left) (none_first (not (all_stay left), Range) [] (none_back cs (value_causes left) r))
 

@@ -7,13 +7,13 @@ use Rattle.evm_cells.proofs.Xor.{and_first}
 use Rattle.evm_script.specs.declared.formula.Formula.{Formula}
 use Rattle.evm_model.specs.Figures.{Figure, nothing, box_at, xor_of, or_of, sub_of}
 use Rattle.evm_model.specs.Orders.{is_among, Ordered}
-use Rattle.evm_model.specs.Scene.{Scene, Entry, What, Given, Made, entry_of, stands, dim_of, entry_operands, operands_of, value, value_within, entry_value, what_stays, reaches, with_entry, without_entry, with_figure, with_new, with_formula, without_name, formula_dim, names_differ, all_stay, IsWell}
+use Rattle.evm_model.specs.Scene.{Scene, Entry, What, Given, Made, entry_of, stands, dim_of, entry_operands, operands_of, value, value_within, entry_value, what_stays, reaches, with_entry, without_entry, with_figure, with_new, with_formula, without_name, formula_dim, names_differ, all_stay, IsWell, IsOrderOf}
 use Rattle.evm_model.specs.Edits.{Edit, Input, Toggle, Add, Cut, Replace, Def, Drop, name_of, after}
 use Rattle.evm_model.proofs.Names.{by_test, not_both, not_true, same_name, name_itself, or_left, or_none, neither, among_none, among_filter, some_passes, none_passes, any_among, apart_back}
 use Rattle.evm_model.proofs.Lookups.{none_stands, with_other, length-with, without_other, without_none, length-without, push_other, length-push}
 use Rattle.evm_model.proofs.Levels.{levels_agree, fixed_agree, entry_same, what_stays_same}
 use Rattle.evm_model.proofs.Orders.{ordered_filter}
-use Rattle.evm_model.proofs.WellScenes.{well_reaches, well_from_none, found_stays, all_entries}
+use Rattle.evm_model.proofs.WellScenes.{well_reaches, well_from_none, found_stays, all_entries, well_order}
 
 -- the names that neither are one nor reach it
 abbrev pub is_before : Scene → List ℕ → List ℕ → Bool
@@ -104,29 +104,35 @@ length-fewer p name (x ∷ xs) m h = by (p x) refl (λ k. length-fewer p name xs
 
 -- a name that neither is nor reaches the changed one keeps its value
 module _ (s : Scene) (well : IsWell s) (name : List ℕ) (u : Scene) (at : IsAt s name u) where
+  abbrev order : List (List ℕ)
+  order = (well_order s well).0
+
+  is_order : IsOrderOf s order
+  is_order = (well_order s well).1
+
   abbrev front : List (List ℕ)
-  front = filter (is_before s name) well.order
+  front = filter (is_before s name) order
 
   front_order : Ordered (operands_of s.entries) [] front
   front_order =
-      ordered_filter (operands_of s.entries) (operands_of s.entries) (is_before s name) [] [] [] well.order
+      ordered_filter (operands_of s.entries) (operands_of s.entries) (is_before s name) [] [] [] order
       (λ x m b o k. (k, or_left (is_before s name o) false (before_reads s well name x b o k)))
-      (λ x b m. m) (λ x m. m) (λ x b m. m) well.ordered
+      (λ x b m. m) (λ x m. m) (λ x b m. m) is_order.ordered
 
   front_fits : length front ≤ length u.entries
   front_fits =
       by_test (stands s name)
       (λ h. omega (
         arith,
-        well.size,
+        is_order.size,
         ap (λ (b : Bool). cond {A = ℕ} b 1 0) h,
         at.1,
-        length-fewer (is_before s name) name well.order (well.whole name ∙ h) (ap not (or_left (bytes_eq name name) (reaches s name name) (name_itself name))),
+        length-fewer (is_before s name) name order (is_order.whole name ∙ h) (ap not (or_left (bytes_eq name name) (reaches s name name) (name_itself name))),
       ))
-      (λ h. omega (arith, well.size, ap (λ (b : Bool). cond {A = ℕ} b 1 0) h, at.1, length-kept (is_before s name) well.order))
+      (λ h. omega (arith, is_order.size, ap (λ (b : Bool). cond {A = ℕ} b 1 0) h, at.1, length-kept (is_before s name) order))
 
   front_other : (x : List ℕ) → is_among x front ≡ true → entry_of u.entries x ≡ entry_of s.entries x
-  front_other x m = at.0 x (before_parts s name x (and_first (is_before s name x) (is_among x well.order) (sym (among_filter (is_before s name) x well.order) ∙ m))).0
+  front_other x m = at.0 x (before_parts s name x (and_first (is_before s name x) (is_among x order) (sym (among_filter (is_before s name) x order) ∙ m))).0
 
   pub value_stays : (x : List ℕ) → bytes_eq x name ≡ false → reaches s x name ≡ false → value u x ≡ value s x
   value_stays x d r =
@@ -135,8 +141,8 @@ module _ (s : Scene) (well : IsWell s) (name : List ℕ) (u : Scene) (at : IsAt 
       (λ y g k same. entry_same (entry_of s.entries y) g k same) [] front front_order
       (λ y m n. ap (λ (e : Option Entry). entry_value e (λ o. value_within n u.entries o)) (front_other y m)) (λ y m n. refl)
       0 (λ y m i j a b. among_none y m) x
-      (among_filter (is_before s name) x well.order ∙ ap (λ (b : Bool). b && is_among x well.order) (before_both s name x d r) ∙ well.whole x ∙ h)
-      (length u.entries) (length s.entries) (omega (arith, front_fits)) (omega (arith, well.size, length-kept (is_before s name) well.order)))
+      (among_filter (is_before s name) x order ∙ ap (λ (b : Bool). b && is_among x order) (before_both s name x d r) ∙ is_order.whole x ∙ h)
+      (length u.entries) (length s.entries) (omega (arith, front_fits)) (omega (arith, is_order.size, length-kept (is_before s name) order)))
       (λ h. let gone = none_stands s.entries x h in
       none_value u.entries x (at.0 x d ∙ gone) (length u.entries) ∙ sym (none_value s.entries x gone (length s.entries)))
 
@@ -151,7 +157,7 @@ module _ (s : Scene) (well : IsWell s) (name : List ℕ) (u : Scene) (at : IsAt 
       old : entry_of s.entries x ≡ Some e
       old = sym (at.0 x d) ∙ q
 
-  -- no formula moves a cell out of the limits, if those of the name and of the names that reach it do not
+  -- no formula makes a place out of the limits, if those of the name and of the names that reach it do not
   pub all_stay_at : names_differ u.entries ≡ true
       → ((x : List ℕ) (e : Entry) → (bytes_eq x name || reaches s x name) ≡ true → entry_of u.entries x ≡ Some e → what_stays e.what (value u) ≡ true) → all_stay u ≡ true
   all_stay_at differ new =
@@ -161,10 +167,11 @@ module _ (s : Scene) (well : IsWell s) (name : List ℕ) (u : Scene) (at : IsAt 
 -- a name that is no operand is not reached
 pub unread_unreached : (scene : Scene) (name x : List ℕ) → IsWell scene → ((y : List ℕ) → is_among name (operands_of scene.entries y) ≡ false) → reaches scene x name ≡ false
 unread_unreached scene name x well free =
+    let (order, is) = well_order scene well in
     by_test (stands scene x)
     (λ h. fixed_agree (operands_of scene.entries) (λ y g. list_any g (operands_of scene.entries y)) (λ y. reaches scene y name) (λ y. false)
     (λ y g k same. any_among g k (operands_of scene.entries y) same)
-    well.order well.ordered (λ y m. well_reaches scene well y name ∙ no_own y) (λ y m. sym (none_passes (λ o. false) (operands_of scene.entries y) (λ o l. refl))) x (well.whole x ∙ h))
+    order is.ordered (λ y m. well_reaches scene well y name ∙ no_own y) (λ y m. sym (none_passes (λ o. false) (operands_of scene.entries y) (λ o l. refl))) x (is.whole x ∙ h))
     (λ h. well_from_none scene well x name h)
   where
     no_own : (y : List ℕ) → list_any (λ o. bytes_eq o name || reaches scene o name) (operands_of scene.entries y) ≡ list_any (λ o. reaches scene o name) (operands_of scene.entries y)

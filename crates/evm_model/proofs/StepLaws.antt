@@ -19,7 +19,7 @@ use Rattle.evm_model.specs.Replies.{Reply, Empty, No, Changed, Listed, is_no}
 use Rattle.evm_model.specs.Laws.{is_edit, is_save}
 use Rattle.evm_model.specs.Steps.{Turn, stays, unless_refused, edited, load_causes, loaded, file_causes, load_turn, saved, turn_of, line_turn, step, command_fetches, of_line, fetches}
 use Rattle.evm_model.proofs.EditLaws.{well_edit}
-use Rattle.evm_model.proofs.Names.{not_true}
+use Rattle.evm_model.proofs.Names.{not_true, among_none}
 use Rattle.evm_model.proofs.LoadLaws.{first_passes, first_front, some_cause, well_load}
 
 -- the codes that come by a mark alone
@@ -223,7 +223,7 @@ save_places fetched scene line name file form e h =
 
 -- the scene before the first line is well: nothing stands in it
 pub well_start : IsWell start
-well_start = record { names = refl; dims = refl; sound = refl; stay = refl; order = []; ordered = tt; whole = λ x. refl; size = refl }
+well_start = record { names = refl; dims = refl; sound = refl; stay = refl; stand = λ x o m. among_none o m; acyclic = λ x. refl }
 
 well_edited : (scene : Scene) (edit : Edit) (reply : Reply) → IsWell scene → EditFits edit → IsWell (edited scene edit reply).scene
 well_edited scene edit reply well fits = by_cause (refusal scene edit) refl

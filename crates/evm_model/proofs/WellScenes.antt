@@ -1,6 +1,6 @@
 -- What holds in each well scene: values follow their formulas, operands stand, no name reaches itself, and values have the
 -- dimension of their names and are cell sets.
-use Rattle.std.proofs.Common.{◌≡◌, ℕ, ◌+◌, ◌-◌, ◌*◌, ◌==◌, Bool, true, false, not, cond, ◌&&◌, ◌||◌, List, [], ◌∷◌, length, take, drop, filter, map, Option, Some, None, ℤ, pos, refl, sym, ap, ◌∙◌, subst, is_some, bytes_eq, arith}
+use Rattle.std.proofs.Common.{◌≡◌, ℕ, zero, suc, ◌+◌, ◌-◌, ◌*◌, ◌==◌, Bool, true, false, not, cond, ◌&&◌, ◌||◌, List, [], ◌∷◌, length, take, drop, filter, map, Option, Some, None, ℤ, pos, refl, sym, ap, ◌∙◌, subst, is_some, bytes_eq, arith, suc}
 use Rattle.std.specs.Prelude.{nat_abs}
 use Rattle.std.specs.List.{list_any, list_all}
 use Rattle.std.proofs.lemmas.Bool.Decides.{Decides-eqb}
@@ -19,28 +19,46 @@ use Rattle.evm_script.specs.declared.formula.Formula.{Formula}
 use Rattle.evm_script.specs.declared.formula.Formula.TheVariants.{Or, And, Sub, Xor, Box, Shift, Mirror, Swap, Clip, Slice, Proj, Lift}
 use Rattle.evm_model.specs.Figures.{Figure, nothing, box_of, box_at, box_fits, low_of, high_of, or_of, and_of, sub_of, xor_of, shift_of, shift_stays, mirror_of, swap_of, clip_of, slice_of, proj_of, lift_of}
 use Rattle.evm_model.specs.Orders.{is_among}
-use Rattle.evm_model.specs.Scene.{What, Given, Made, Entry, Scene, has_name, entry_of, stands, dim_of, dim_of_entry, operands, what_operands, entry_operands, operands_of, formula_value, what_value, what_stays, entry_value, value, reaches, is_dim, is_axis, is_range, formula_dim, formula_fits, formula_in_range, names_differ, what_is_sound, IsWell}
-use Rattle.evm_model.proofs.Names.{by_test, not_both, same_name, name_itself, among_here, among_later, among_none, not_true}
+use Rattle.evm_model.specs.Scene.{What, Given, Made, Entry, Scene, has_name, entry_of, stands, dim_of, dim_of_entry, operands, what_operands, entry_operands, operands_of, formula_value, what_value, what_stays, entry_value, value, reaches, is_dim, is_axis, is_range, formula_dim, formula_fits, formula_in_range, names_differ, what_is_sound, IsWell, reaches_within, IsOrderOf}
+use Rattle.evm_model.proofs.Names.{by_test, not_both, same_name, name_itself, among_here, among_later, among_none, not_true, any_less, or_right, by_or}
 use Rattle.evm_model.proofs.Lookups.{stands_any, none_stands, found_passes}
+use Rattle.evm_model.proofs.OrderExists.{order_of}
+use Rattle.std.proofs.lemmas.Bool.{false≢true}
 use Rattle.evm_model.proofs.Levels.{value_step, value_unique, reaches_step, reaches_from_none, never_itself, operands_stand, fixed_agree, along}
 
+-- the names of a well scene in an order in which operands come first
+pub well_order : (scene : Scene) → IsWell scene → (order : List (List ℕ)) × IsOrderOf scene order
+well_order scene well = order_of scene well.names well.stand well.acyclic
+
+-- where the names of a scene have such an order, operands stand and no name reaches itself
+pub ordered_stand : (scene : Scene) (order : List (List ℕ)) → IsOrderOf scene order
+    → ((x o : List ℕ) → is_among o (operands_of scene.entries x) ≡ true → stands scene o ≡ true) × ((x : List ℕ) → reaches scene x x ≡ false)
+ordered_stand scene order is = (operands_stand scene order is.ordered is.whole is.size, never_itself scene order is.ordered is.whole is.size)
+
 pub well_value : (scene : Scene) → IsWell scene → (x : List ℕ) → value scene x ≡ entry_value (entry_of scene.entries x) (value scene)
-well_value scene well x = value_step scene well.order well.ordered well.whole well.size x
+well_value scene well x = let (order, is) = well_order scene well in value_step scene order is.ordered is.whole is.size x
 
 pub well_unique : (scene : Scene) → IsWell scene → (f : List ℕ → Figure) → ((x : List ℕ) → f x ≡ entry_value (entry_of scene.entries x) f) → (x : List ℕ) → f x ≡ value scene x
-well_unique scene well f fixed x = value_unique scene well.order well.ordered well.whole well.size f fixed x
+well_unique scene well f fixed x = let (order, is) = well_order scene well in value_unique scene order is.ordered is.whole is.size f fixed x
 
 pub well_reaches : (scene : Scene) → IsWell scene → (x y : List ℕ) → reaches scene x y ≡ list_any (λ o. bytes_eq o y || reaches scene o y) (operands_of scene.entries x)
-well_reaches scene well x y = reaches_step scene well.order well.ordered well.whole well.size x y
+well_reaches scene well x y = let (order, is) = well_order scene well in reaches_step scene order is.ordered is.whole is.size x y
 
 pub well_from_none : (scene : Scene) → IsWell scene → (x y : List ℕ) → stands scene x ≡ false → reaches scene x y ≡ false
-well_from_none scene well x y out = reaches_from_none scene well.order well.ordered well.whole well.size x y out
+well_from_none scene well x y out = let (order, is) = well_order scene well in reaches_from_none scene order is.ordered is.whole is.size x y out
 
-pub well_never : (scene : Scene) → IsWell scene → (x : List ℕ) → reaches scene x x ≡ false
-well_never scene well x = never_itself scene well.order well.ordered well.whole well.size x
-
-pub well_operands : (scene : Scene) → IsWell scene → (x o : List ℕ) → is_among o (operands_of scene.entries x) ≡ true → stands scene o ≡ true
-well_operands scene well x o r = operands_stand scene well.order well.ordered well.whole well.size x o r
+-- a name reaches what a name that it reaches does
+pub well_through : (scene : Scene) → IsWell scene → (x y z : List ℕ) → reaches scene x y ≡ true → reaches scene y z ≡ true → reaches scene x z ≡ true
+well_through scene well x y z h t = through (length scene.entries) x h
+  where
+    through : (n : ℕ) (w : List ℕ) → reaches_within n scene.entries w y ≡ true → reaches scene w z ≡ true
+    through zero w k = absurd (false≢true k)
+    through (suc n) w k =
+        well_reaches scene well w z
+        ∙ any_less (λ o. bytes_eq o y || reaches_within n scene.entries o y) (λ o. bytes_eq o z || reaches scene o z) (operands_of scene.entries w)
+        (λ o r e. or_right (bytes_eq o z) (reaches scene o z) (by_or (bytes_eq o y) (reaches_within n scene.entries o y) e
+        (λ q. subst (λ (v : List ℕ). reaches scene v z ≡ true) (sym (same_name o y q)) t)
+        (λ q. through n o q))) k
 
 -- the dimension of a formula, at those of its operands
 abbrev formula_dim_at : Formula → (List ℕ → ℕ) → ℕ
@@ -120,10 +138,13 @@ all_moved {X} {Y} p f (x ∷ xs) h =
     ∙ ap (λ (ys : List Y). f x ∷ ys) (all_moved p f xs (and_second (p (f x)) (list_all (λ y. p (f y)) xs) h))
 
 module _ (scene : Scene) (well : IsWell scene) where
+  abbrev order_of_names : (order : List (List ℕ)) × IsOrderOf scene order
+  order_of_names = well_order scene well
+
   pub found_sound : (x : List ℕ) (e : Entry) → entry_of scene.entries x ≡ Some e → what_is_sound scene e.dim e.what ≡ true
   found_sound x e q = found_passes (λ (y : Entry). what_is_sound scene y.dim y.what) scene.entries x e q well.sound
 
-  -- no formula moves a cell out of the limits
+  -- no formula makes a place out of the limits
   pub found_stays : (x : List ℕ) (e : Entry) → entry_of scene.entries x ≡ Some e → what_stays e.what (value scene) ≡ true
   found_stays x e q = found_passes (λ (y : Entry). what_stays y.what (value scene)) scene.entries x e q well.stay
 
@@ -185,21 +206,21 @@ module _ (scene : Scene) (well : IsWell scene) where
   -- the dimension of a name is that of its value
   pub value_dim : (x : List ℕ) → dim_of scene x ≡ (value scene x).dim
   value_dim x =
-      by_test (is_among x well.order)
+      by_test (stands scene x)
       (λ l. fixed_agree (operands_of scene.entries) (λ y g. entry_dim_at (entry_of scene.entries y) g) (dim_of scene) (λ y. (value scene y).dim)
-      (λ y g h same. entry_dim_same (entry_of scene.entries y) g h same) well.order well.ordered (λ y m. dim_fixed y) (λ y m. value_dim_fixed y) x l)
+      (λ y g h same. entry_dim_same (entry_of scene.entries y) g h same) order_of_names.0 order_of_names.1.ordered (λ y m. dim_fixed y) (λ y m. value_dim_fixed y) x (order_of_names.1.whole x ∙ l))
       (λ out. dim_fixed x ∙ ap (λ (o : Option Entry). entry_dim_at o (dim_of scene)) (gone out) ∙ sym (value_dim_fixed x ∙ ap (λ (o : Option Entry). entry_dim_at o (λ y. (value scene y).dim)) (gone out)))
     where
-      gone : is_among x well.order ≡ false → entry_of scene.entries x ≡ None
-      gone out = none_stands scene.entries x (sym (well.whole x) ∙ out)
+      gone : stands scene x ≡ false → entry_of scene.entries x ≡ None
+      gone out = none_stands scene.entries x out
 
   -- each value is a cell set
   pub value_cells : (x : List ℕ) → IsCellSet (value scene x).dim (value scene x).cells
   unfolding nothing ascending or_of and_of sub_of xor_of box_of shift_of mirror_of swap_of clip_of slice_of proj_of lift_of clip
   value_cells x =
-      by_test (is_among x well.order)
-      (λ l. along (operands_of scene.entries) (λ y. IsCellSet (value scene y).dim (value scene y).cells) from_operands [] well.order well.ordered (λ y m. among_none y m) x l)
-      (λ out. from_operands x (λ o m. among_none o (subst (λ (t : Option Entry). is_among o (entry_operands t) ≡ true) (none_stands scene.entries x (sym (well.whole x) ∙ out)) m)))
+      by_test (stands scene x)
+      (λ l. along (operands_of scene.entries) (λ y. IsCellSet (value scene y).dim (value scene y).cells) from_operands [] order_of_names.0 order_of_names.1.ordered (λ y m. among_none y m) x (order_of_names.1.whole x ∙ l))
+      (λ out. from_operands x (λ o m. among_none o (subst (λ (t : Option Entry). is_among o (entry_operands t) ≡ true) (none_stands scene.entries x out) m)))
     where
       by_formula : (n : ℕ) (f : Formula) → what_is_sound scene n (Made f) ≡ true → ((o : List ℕ) → is_among o (operands f) ≡ true → IsCellSet (value scene o).dim (value scene o).cells)
           → IsCellSet (formula_value f (value scene)).dim (formula_value f (value scene)).cells

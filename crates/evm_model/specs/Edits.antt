@@ -138,7 +138,7 @@ after scene (Replace name figure) = with_figure scene name figure
 after scene (Def name formula) = with_formula scene name formula
 after scene (Drop name) = without_name scene name
 
--- what refuses an edit by the scene that it would leave: some formula would move a cell out of the limits
+-- what refuses an edit by the scene that it would leave: some formula would make a place out of the limits
 abbrev pub value_causes : Scene → List (Bool × Code)
 value_causes left = (not (all_stay left), Range) ∷ []
 

@@ -16,7 +16,7 @@ use Rattle.evm_script.specs.declared.formula.Formula.TheVariants.{Shift}
 use Rattle.evm_model.specs.Figures.{Figure, nothing, box_at, xor_of, or_of, sub_of, same_figure}
 use Rattle.evm_model.specs.Files.{Fetches, form_fits, figure_in, figure_fetched, bytes_in}
 use Rattle.evm_model.specs.Orders.{is_among}
-use Rattle.evm_model.specs.Scene.{Scene, Entry, Made, start, entry_of, stands, dim_of, operands_of, formula_value, entry_value, value, reaches, is_read, all_stay, with_figure, is_dim, IsWell}
+use Rattle.evm_model.specs.Scene.{Scene, Entry, Made, start, entry_of, stands, dim_of, operands_of, formula_value, entry_value, value, reaches, is_read, all_stay, with_figure, is_dim, IsWell, IsOrderOf}
 use Rattle.evm_model.specs.Edits.{Edit, Input, Toggle, Add, Cut, Replace, Def, Drop, Missing, Shelf, Form, Memory, EditFits, name_of, refusal, after, changed, changed_names}
 use Rattle.evm_model.specs.Replies.{Reply, No, reply_text, line_of, is_no}
 use Rattle.evm_model.specs.Steps.{step, fetches, of_line}
@@ -64,7 +64,7 @@ abbrev pub QuestionsLeaveScene : Type 0
 QuestionsLeaveScene = (fetched : Fetches) (scene : Scene) (line : List ℕ) (c : Command) → command line ≡ Ok c → is_edit c ≡ false
     → (step fetched scene line).scene ≡ scene
 
--- an edit after which a formula would move a cell out of the limits is refused
+-- an edit after which a formula would make a place out of the limits is refused
 abbrev pub OutOfLimitsIsRefused : Type 0
 OutOfLimitsIsRefused = (scene : Scene) (edit : Edit) → IsWell scene → all_stay (after scene edit) ≡ false → refusal scene edit ≢ None
 
@@ -102,6 +102,16 @@ ReachingFollowsFormulas = (scene : Scene) (name other : List ℕ) → IsWell sce
 -- no name reaches itself
 abbrev pub NoneReachesItself : Type 0
 NoneReachesItself = (scene : Scene) (name : List ℕ) → IsWell scene → reaches scene name name ≡ false
+
+-- the names of a well scene have an order in which operands come first
+abbrev pub NamesHaveOrder : Type 0
+NamesHaveOrder = (scene : Scene) → IsWell scene → (order : List (List ℕ)) × IsOrderOf scene order
+
+-- where they have one, operands stand, and no name reaches itself
+abbrev pub OrdersShowWell : Type 0
+OrdersShowWell = (scene : Scene) (order : List (List ℕ)) → IsOrderOf scene order
+    → ((name operand : List ℕ) → is_among operand (operands_of scene.entries name) ≡ true → stands scene operand ≡ true)
+    × ((name : List ℕ) → reaches scene name name ≡ false)
 
 -- the value of a shift has each cell of its operand, moved, and no other: none is lost at the limits
 abbrev pub ShiftsMoveAllCells : Type 0

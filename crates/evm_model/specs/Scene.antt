@@ -105,7 +105,7 @@ formula_value (Slice a axis height) at = slice_of (nat_abs axis) height (at a)
 formula_value (Proj a axis) at = proj_of (nat_abs axis) (at a)
 formula_value (Lift a axis lo hi) at = lift_of (nat_abs axis) lo hi (at a)
 
--- whether a formula moves no cell of its operand's value to a place that is no cell; a shift alone can
+-- whether a formula makes no place that is no cell of its operand's value; a shift alone can
 abbrev pub formula_stays : Formula → (List ℕ → Figure) → Bool
 formula_stays (Or a b) at = true
 formula_stays (And a b) at = true
@@ -140,12 +140,12 @@ value_within (suc n) entries name = entry_value (entry_of entries name) (λ o. v
 abbrev pub value : Scene → List ℕ → Figure
 value scene name = value_within (length scene.entries) scene.entries name
 
--- whether what a name stands for moves no cell out of the limits
+-- whether what a name stands for makes no place that is no cell
 abbrev pub what_stays : What → (List ℕ → Figure) → Bool
 what_stays (Given cells) at = true
 what_stays (Made formula) at = formula_stays formula at
 
--- whether no formula of a scene moves a cell out of the limits
+-- whether each shift of a scene makes cells alone
 abbrev pub all_stay : Scene → Bool
 all_stay scene = list_all (λ (e : Entry). what_stays e.what (value scene)) scene.entries
 
@@ -260,13 +260,17 @@ what_is_sound scene dim (Given cells) = ascending cells && list_all (is_cell dim
 what_is_sound scene dim (Made formula) = formula_fits scene formula && formula_in_range scene formula && formula_dim scene formula == dim
 
 -- what each scene of a run keeps: names differ, dimensions are those that named solids have, each entry is sound, no formula
--- moves a cell out of the limits, and the names can be put in an order in which the operands of each come before it, so that operands stand and none reaches itself
+-- makes a place that is no cell, operands stand, and no name reaches itself
 pub record IsWell (scene : Scene) : Type 0 where
   pub names : names_differ scene.entries ≡ true
   pub dims : list_all (λ (e : Entry). is_dim (pos e.dim)) scene.entries ≡ true
   pub sound : list_all (λ (e : Entry). what_is_sound scene e.dim e.what) scene.entries ≡ true
   pub stay : all_stay scene ≡ true
-  pub order : List (List ℕ)
+  pub stand : (x o : List ℕ) → is_among o (operands_of scene.entries x) ≡ true → stands scene o ≡ true
+  pub acyclic : (x : List ℕ) → reaches scene x x ≡ false
+
+-- an order of the names of a scene in which the operands of each come before it
+pub record IsOrderOf (scene : Scene) (order : List (List ℕ)) : Type 0 where
   pub ordered : Ordered (operands_of scene.entries) [] order
   pub whole : (x : List ℕ) → is_among x order ≡ stands scene x
   pub size : length order ≡ length scene.entries

@@ -49,8 +49,8 @@ load_causes scene name form =
 abbrev pub loaded : Fetches → Scene → List ℕ → LoadForm → List ℕ → Figure
 loaded fetched scene name form file = or_nothing (dim_of scene name) (figure_fetched form (dim_of scene name) (fetched file))
 
--- what refuses a load by its file: there is none, its bytes are none of the form, or a formula would move a cell of what it
--- makes out of the limits
+-- what refuses a load by its file: there is none, its bytes are none of the form, or a formula would make a place out of the
+-- limits
 abbrev pub file_causes : Fetches → Scene → List ℕ → LoadForm → List ℕ → List (Bool × Code)
 file_causes fetched scene name form file =
     (is_none (fetched file), Missing)

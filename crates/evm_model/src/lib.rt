@@ -8,7 +8,7 @@
 //! input, or a formula over other names, its operands. A **figure** is a cell set with its dimension. The **value** of a name is
 //! a figure: the cells of an input, or what a formula makes of the values of its operands. A name **reaches** its operands and
 //! what they reach. A scene is **well** where names differ, dimensions are 2 to 6, each input is a cell set, each formula fits
-//! its operands, no shift moves a cell out of the limits, and the names can be put in an order in which operands come first.
+//! its operands, no shift makes a place out of the limits, operands stand, and no name reaches itself.
 //! A **step** is what one line does: its reply, the scene after it, and the file that it places. It is given what a fetch of
 //! each file name gives. A **world** is a scene and the files of a shelf. A **run** takes the lines of a script in order, each
 //! with a mark that says whether it was answered, memory was missing, or the shelf failed; where a shelf does not tell its
@@ -18,7 +18,8 @@
 ghost use Rattle.evm_model.specs.Laws.{SameIsEqual, RefusalsBeginWithNo, RepliesAreLines};
 ghost use Rattle.evm_model.specs.Laws.{RefusalChangesNothing, QuestionsLeaveScene, OutOfLimitsIsRefused};
 ghost use Rattle.evm_model.specs.Laws.{StepHasMemory, StartIsWell, StepsKeepWell, EditsKeepWell};
-ghost use Rattle.evm_model.specs.Laws.{ValuesFollowFormulas, FormulasDetermineValues, ReachingFollowsFormulas, NoneReachesItself};
+ghost use Rattle.evm_model.specs.Laws.{ValuesFollowFormulas, FormulasDetermineValues, ReachingFollowsFormulas};
+ghost use Rattle.evm_model.specs.Laws.{NoneReachesItself, NamesHaveOrder, OrdersShowWell};
 ghost use Rattle.evm_model.specs.Laws.{ShiftsMoveAllCells, OperandsStand, DimIsOfValue, ValuesAreCellSets};
 ghost use Rattle.evm_model.specs.Laws.{OthersStay, OthersStand, InputsStartEmpty, BoxesCombine, ReplacementsHold, DefinitionsHold, DropsTakeOut};
 ghost use Rattle.evm_model.specs.Laws.{ChangedReachName, NewNamesChangeNone, DropsChangeNone, OneNameChanges};
@@ -41,7 +42,7 @@ pub fn replies_show_refusals()
 ///
 /// - `refused`: a refused line leaves the scene, and places no file.
 /// - `questions`: a line that is no edit leaves the scene.
-/// - `limits`: an edit after which some formula would move a cell out of the limits is refused.
+/// - `limits`: an edit after which some formula would make a place out of the limits is refused.
 /// - `memory`: no step answers want of memory, or that the shelf failed.
 /// - `start`, `well`: each scene of a run is well.
 /// - `edits`: an edit that is not refused keeps a scene well, where a figure that it states is a cell set.
@@ -62,6 +63,8 @@ pub fn steps_keep_scenes()
 /// - `shifts`: a shift moves each cell of its operand, and loses none at the limits.
 /// - `reaching`: a name reaches what it reads, what that reaches, and no more.
 /// - `cycles`: no name reaches itself.
+/// - `order`: so the names can be put in an order in which the operands of each come before it.
+/// - `ordered`: where such an order is, operands stand and no name reaches itself, in every scene.
 /// - `operands`: what a name reads stands.
 /// - `dim`: the dimension of a name is that of its value.
 /// - `cells`: each value is a cell set.
@@ -71,6 +74,8 @@ pub fn values_follow_formulas()
     ensures shifts { ShiftsMoveAllCells }
     ensures reaching { ReachingFollowsFormulas }
     ensures cycles { NoneReachesItself }
+    ensures order { NamesHaveOrder }
+    ensures ordered { OrdersShowWell }
     ensures operands { OperandsStand }
     ensures dim { DimIsOfValue }
     ensures cells { ValuesAreCellSets }
