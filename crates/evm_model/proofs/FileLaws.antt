@@ -12,9 +12,9 @@ use Rattle.evm_cells.proofs.Coords.{le_is}
 use Rattle.evm_cells.proofs.Core.{cells-evm}
 use Rattle.evm_cells.proofs.Universe.{cell_set-cells}
 use Rattle.evm_cells.proofs.Xor.{and_first, and_second}
-use Rattle.evm_file.specs.File.{file_of_cells, stated_rows, IsSolidCells}
-use Rattle.evm_file.proofs.Frames.{rows_of_file}
-use Rattle.evm_file.proofs.Laws.{vertices_of_cells, solid_of_cells, cell_sets}
+use Rattle.evm_formats.specs.File.{file_of_cells, stated_rows, IsSolidCells}
+use Rattle.evm_formats.proofs.Frames.{rows_of_file}
+use Rattle.evm_formats.proofs.FileLaws.{vertices_of_cells, solid_of_cells, cell_sets}
 use Rattle.evm_boxes.specs.Unions.{Ends}
 use Rattle.evm_boxes.specs.BoxFile.{file_cells, union_or_refusal, boxes_of_file}
 use Rattle.evm_boxes.specs.Words.{lines}

@@ -6,7 +6,7 @@ use Rattle.evm_cells.specs.Shapes.{added}
 use Rattle.evm_script.specs.Line.{command}
 use Rattle.evm_script.specs.declared.command.Command.{Command}
 use Rattle.evm_script.specs.declared.command.Command.TheVariants as commands
-use Rattle.evm_file.specs.File.{IsSolidCells}
+use Rattle.evm_formats.specs.File.{IsSolidCells}
 use Rattle.evm_script.specs.declared.files.LoadForm.{LoadForm}
 use Rattle.evm_script.specs.declared.files.LoadForm.TheVariants as forms
 use Rattle.evm_script.specs.declared.files.SaveForm.{SaveForm}
