@@ -11,3 +11,4 @@ pub mod Shapes
 pub mod ShapeLaws
 pub mod Windows
 pub mod Localities
+pub mod Unions
