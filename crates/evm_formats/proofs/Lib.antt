@@ -5,3 +5,5 @@ pub mod FileLaws
 pub mod Images
 pub mod Lengths
 pub mod ImageSets
+pub mod BoxLines
+pub mod BoxLaws

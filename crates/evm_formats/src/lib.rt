@@ -5,8 +5,10 @@
 //! contract names what its format's bytes state, so an edit of a reader changes nothing here.
 #![tactic(auto)]
 
+mod boxes;
 mod file;
 mod voxels;
 
+pub use boxes::{BoxFileError, box_files_state_unions};
 pub use file::{FileError, files_determine_solids};
 pub use voxels::{Sampling, VoxelError};
