@@ -15,9 +15,11 @@ use Rattle.evm_cells.proofs.Boxes.{box_test}
 use Rattle.evm_cells.proofs.Coords.{eq_yes}
 use Rattle.evm_cells.proofs.Universe.{point_parts}
 use Rattle.evm_cells.proofs.Unions.{two_unions, one_box}
-use Rattle.evm_formats.specs.BoxFile.{head_dim, numbers, box_of_numbers, boxes_of_line, boxes_of_lines, joined, boxes_after, boxes_of_file, union_or_refusal, file_cells}
+use Rattle.evm_formats.specs.BoxFile.{head_dim, just_numbers, box_of_numbers, boxes_of_line, boxes_of_lines, joined, boxes_after, boxes_of_file, union_or_refusal, file_cells}
 use Rattle.evm_formats.specs.BoxLaws.{IsLine, text_of, IsHead, HasBox, BoxesStateUnion, PiecesStateUnion, BlanksStateNothing, FirstWrongLine, TwoRooms}
-use Rattle.evm_formats.specs.Words.{is_lf, lines, lines_of_parts, words, without_cr, number}
+use Rattle.evm_text.specs.Lines.{is_lf, lines, lines_of_parts, without_cr}
+use Rattle.evm_text.specs.Words.{words}
+use Rattle.evm_text.specs.Numbers.{number}
 use Rattle.evm_formats.specs.declared.boxes.BoxFileError.{BoxFileError}
 use Rattle.evm_formats.specs.declared.boxes.BoxFileError.TheVariants.{Dim, Range}
 use Rattle.evm_formats.proofs.BoxLines.{Boxes, boxes_of_lines-append, boxes_of_lines-moved, boxes_of_lines-blank}
@@ -121,7 +123,7 @@ line_of_box dim k ends line h =
     let long = point_parts dim ends.lo h.box.low in
     let lo : take dim (ends.lo ++ ends.hi) ≡ ends.lo = take_at ends.lo ends.hi dim long.0 in
     let hi : drop dim (ends.lo ++ ends.hi) ≡ ends.hi = drop_at ends.lo ends.hi dim long.0 in
-    ap (λ (b : Bool). cond b (Ok []) (box_of_numbers dim k (numbers (2 * dim) ws))) h.filled
+    ap (λ (b : Bool). cond b (Ok []) (box_of_numbers dim k (just_numbers (2 * dim) ws))) h.filled
     ∙ ap (box_of_numbers dim k) h.words
     ∙ ap₂ (λ (a b : List ℤ). cond (is_box dim a b) (Ok (record { lo = a; hi = b } ∷ [])) (Err (Range k))) lo hi
     ∙ ap (λ (b : Bool). cond b (Ok (ends ∷ [])) (Err (Range k))) ((box_test dim ends.lo ends.hi).1 h.box)

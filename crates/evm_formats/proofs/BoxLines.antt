@@ -2,8 +2,9 @@
 use Rattle.std.proofs.Common.{◌≡◌, ℕ, ◌+◌, ◌*◌, Bool, true, false, cond, List, [], ◌∷◌, ◌++◌, length, take, drop, Option, Some, None, Result, Ok, Err, ℤ, refl, sym, ap, ap₂, ◌∙◌, arith, append_assoc}
 use Rattle.evm_cells.specs.Boxes.{is_box}
 use Rattle.evm_cells.specs.Unions.{Ends}
-use Rattle.evm_formats.specs.BoxFile.{is_skipped, numbers, box_of_numbers, boxes_of_line, boxes_of_lines, joined}
-use Rattle.evm_formats.specs.Words.{words, without_cr}
+use Rattle.evm_formats.specs.BoxFile.{is_skipped, just_numbers, box_of_numbers, boxes_of_line, boxes_of_lines, joined}
+use Rattle.evm_text.specs.Lines.{without_cr}
+use Rattle.evm_text.specs.Words.{words}
 use Rattle.evm_formats.specs.declared.boxes.BoxFileError.{BoxFileError}
 use Rattle.evm_formats.specs.declared.boxes.BoxFileError.TheVariants.{Range}
 
@@ -47,7 +48,7 @@ numbers_alike dim k j (Some ns) =
 line_alike : (dim k j : ℕ) (line : List ℕ) → Alike (boxes_of_line dim k line) (boxes_of_line dim j line)
 line_alike dim k j line =
     let ws = words (without_cr line) in
-    let rest = numbers (2 * dim) ws in
+    let rest = just_numbers (2 * dim) ws in
     elim (is_skipped ws) as (λ b. Alike (cond b (Ok []) (box_of_numbers dim k rest)) (cond b (Ok []) (box_of_numbers dim j rest)))
     [ true ↦ refl | false ↦ numbers_alike dim k j rest ]
 
@@ -81,7 +82,7 @@ pub boxes_of_lines-blank : (dim k : ℕ) (xs ys : List (List ℕ)) (blank : List
 boxes_of_lines-blank dim k xs ys blank boxes s e =
     let n = k + length xs in
     let front = boxes_of_lines dim k xs in
-    let skipped : boxes_of_line dim n blank ≡ Ok [] = ap (λ (b : Bool). cond b (Ok []) (box_of_numbers dim n (numbers (2 * dim) (words (without_cr blank))))) s in
+    let skipped : boxes_of_line dim n blank ≡ Ok [] = ap (λ (b : Bool). cond b (Ok []) (box_of_numbers dim n (just_numbers (2 * dim) (words (without_cr blank))))) s in
     let late : Boxes = boxes_of_lines dim (n + 1) ys in
     let moved : joined front late ≡ Ok boxes =
     alike_ok (joined front (boxes_of_lines dim n ys)) (joined front late) boxes

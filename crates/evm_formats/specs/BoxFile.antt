@@ -1,9 +1,11 @@
 -- The box file, version 1: what its bytes state (this project's own format).
-use Rattle.std.specs.Prelude.{ℕ, zero, suc, ◌+◌, ◌*◌, Bool, true, false, ◌&&◌, nat_eq, if◌then◌else◌, List, [], ◌∷◌, ◌++◌, take, drop, Option, None, Some, Result, Ok, Err, ℤ, pos, codes, bytes_eq}
+use Rattle.std.specs.Prelude.{ℕ, ◌+◌, ◌*◌, ◌==◌, Bool, true, ◌&&◌, if◌then◌else◌, List, [], ◌∷◌, ◌++◌, length, take, drop, Option, None, Some, Result, Ok, Err, ℤ, pos, codes, bytes_eq}
 use Rattle.std.specs.Ordering.{int_eq}
+use Rattle.evm_text.specs.Lines.{lines, without_cr}
+use Rattle.evm_text.specs.Words.{words, is_comment}
+use Rattle.evm_text.specs.Numbers.{number, numbers}
 use Rattle.evm_cells.specs.Boxes.{is_box}
 use Rattle.evm_cells.specs.Unions.{Ends, union_of}
-use Rattle.evm_formats.specs.Words.{lines, without_cr, words, number}
 use Rattle.evm_formats.specs.declared.boxes.BoxFileError.{BoxFileError}
 use Rattle.evm_formats.specs.declared.boxes.BoxFileError.TheVariants.{Head, Dim, Line, Range}
 
@@ -16,26 +18,14 @@ head_dim _ = None
 
 -- ---- a line after it
 
--- a comment begins with a number sign
-abbrev pub is_comment : List ℕ → Bool
-is_comment [] = false
-is_comment (b ∷ bs) = nat_eq b 35
-
 -- a line is skipped where it has no words or where a comment begins
 abbrev pub is_skipped : List (List ℕ) → Bool
 is_skipped [] = true
 is_skipped (first ∷ more) = is_comment first
 
--- one number before others, where all are numbers
-abbrev pub cons_number : Option ℤ → Option (List ℤ) → Option (List ℤ)
-cons_number (Some n) (Some ns) = Some (n ∷ ns)
-cons_number _ _ = None
-
 -- the numbers of words, of which there are exactly so many, and each is a number
-abbrev pub numbers : ℕ → List (List ℕ) → Option (List ℤ)
-numbers zero [] = Some []
-numbers (suc count) (word ∷ more) = cons_number (number word) (numbers count more)
-numbers _ _ = None
+abbrev pub just_numbers : ℕ → List (List ℕ) → Option (List ℤ)
+just_numbers count ws = if length ws == count then numbers ws else None
 
 -- the box from the first dim numbers to the others; or the refusal of line k, where they are none
 abbrev pub box_of : ℕ → ℕ → List ℤ → Result (List Ends) BoxFileError
@@ -49,7 +39,7 @@ box_of_numbers dim k (Some ns) = box_of dim k ns
 
 -- nothing where the words of line k are skipped, and else the box that they state; or the refusal of the line
 abbrev pub boxes_of_words : ℕ → ℕ → List (List ℕ) → Result (List Ends) BoxFileError
-boxes_of_words dim k ws = if is_skipped ws then Ok [] else box_of_numbers dim k (numbers (2 * dim) ws)
+boxes_of_words dim k ws = if is_skipped ws then Ok [] else box_of_numbers dim k (just_numbers (2 * dim) ws)
 
 -- the same of line k
 abbrev pub boxes_of_line : ℕ → ℕ → List ℕ → Result (List Ends) BoxFileError

@@ -4,8 +4,9 @@ use Rattle.evm_cells.specs.Booleans.{or_cells}
 use Rattle.evm_cells.specs.Boxes.{box_cells, IsBox}
 use Rattle.evm_cells.specs.Examples.{plane}
 use Rattle.evm_cells.specs.Unions.{Ends, union_of}
-use Rattle.evm_formats.specs.Words.{is_lf, without_cr, words}
-use Rattle.evm_formats.specs.BoxFile.{head_dim, is_skipped, numbers, boxes_of_line, boxes_of_lines, file_cells}
+use Rattle.evm_text.specs.Lines.{is_lf, without_cr}
+use Rattle.evm_text.specs.Words.{words}
+use Rattle.evm_formats.specs.BoxFile.{head_dim, is_skipped, just_numbers, boxes_of_line, boxes_of_lines, file_cells}
 use Rattle.evm_formats.specs.declared.boxes.BoxFileError.{BoxFileError}
 
 -- a line has no line feed
@@ -25,7 +26,7 @@ pub record IsHead (dim : ℕ) (line : List ℕ) : Type 0 where
 pub record HasBox (dim : ℕ) (ends : Ends) (line : List ℕ) : Type 0 where
   pub whole : IsLine line
   pub filled : is_skipped (words (without_cr line)) ≡ false
-  pub words : numbers (2 * dim) (words (without_cr line)) ≡ Some (ends.lo ++ ends.hi)
+  pub words : just_numbers (2 * dim) (words (without_cr line)) ≡ Some (ends.lo ++ ends.hi)
   pub box : IsBox dim ends.lo ends.hi
 
 -- a blank line, or a comment
