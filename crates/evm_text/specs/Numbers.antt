@@ -1,5 +1,5 @@
 -- Numbers in plain decimal, each a word.
-use Rattle.std.specs.Prelude.{ℕ, ◌+◌, ◌-◌, ◌*◌, ◌^◌, Bool, ◌&&◌, nat_eq, nat_le, if◌then◌else◌, List, [], ◌∷◌, length, drop, slice_index, Option, None, Some, ℤ, pos, neg_ℤ, option_map}
+use Rattle.std.specs.Prelude.{ℕ, ◌+◌, ◌-◌, ◌*◌, ◌^◌, Bool, ◌&&◌, nat_eq, nat_le, if◌then◌else◌, List, [], ◌∷◌, length, drop, slice_index, Option, None, Some, ℤ, pos, neg_ℤ, int_le, option_map}
 use Rattle.std.specs.List.{list_all}
 
 -- the most digits of a number
@@ -37,3 +37,11 @@ cons_number (Some n) (Some ns) = Some (n ∷ ns)
 abbrev pub numbers : List (List ℕ) → Option (List ℤ)
 numbers [] = Some []
 numbers (word ∷ rest) = cons_number (number word) (numbers rest)
+
+-- the greatest number, of ten digits
+abbrev pub num_max : ℕ
+num_max = 9999999999
+
+-- the numbers that ten digits state, with either sign
+abbrev pub in_number_range : ℤ → Bool
+in_number_range n = int_le (neg_ℤ (pos num_max)) n && int_le n (pos num_max)
