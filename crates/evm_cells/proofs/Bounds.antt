@@ -67,10 +67,14 @@ boundary_bound n S =
 -- up to dimension 6 there are at most 2 ^ 120 cells
 pub room : (n : ℕ) → n ≤ 6 → (2 * limit n) ^ n ≤ 2 ^ 120
 unfolding limit
-room n l =
-    let a : 1048576 ^ n ≤ 1048576 ^ 6 = pow-le-pow_right (omega arith) l in
-    let b : 1048576 ^ 6 ≡ 2 ^ 120 = refl in
-    omega (arith, a, b)
+room zero l = omega arith
+room (suc zero) l = omega arith
+room (suc (suc zero)) l = omega arith
+room (suc (suc (suc zero))) l = omega arith
+room (suc (suc (suc (suc zero)))) l = omega arith
+room (suc (suc (suc (suc (suc zero))))) l = omega arith
+room (suc (suc (suc (suc (suc (suc zero)))))) l = omega arith
+room (suc (suc (suc (suc (suc (suc (suc n))))))) l = absurd (omega arith)
 
 pub content-fits : (n : ℕ) (S : List (List ℤ)) → n ≤ 6 → IsCellSet n S → content S ≤ 2 ^ 120
 content-fits n S l s = let a = content_bound n S s in let b = room n l in omega (arith, a, b)

@@ -1,9 +1,9 @@
 -- Whole numbers in a row, and the sums over them that the two ways between cells and vertices come to, on one axis.
-use Rattle.std.proofs.Common.{◌≡◌, ℕ, zero, suc, ◌+◌, ◌*◌, ◌≤◌, Bool, true, false, ◌&&◌, ◌||◌, ℤ, pos, neg_ℤ, ◌+ℤ◌, ◌-ℤ◌, ◌≤ℤ◌, ◌<ℤ◌, int_le, int_lt, refl, sym, ap, ap₂, ◌∙◌, arith, int_eq}
+use Rattle.std.proofs.Common.{◌≡◌, ℕ, zero, suc, ◌+◌, ◌*◌, ◌≤◌, Bool, true, false, ◌&&◌, ◌||◌, ℤ, pos, neg_ℤ, ◌+ℤ◌, ◌-ℤ◌, ◌≤ℤ◌, ◌<ℤ◌, int_le, int_lt, refl, sym, ap, ap₂, ◌∙◌, arith, int_eq, nat_le, nat_eq}
 use Rattle.std.specs.List.{list_any, list_all}
 use Rattle.std.proofs.lemmas.Int.{ints as int_facts, by_lt_z}
 use Rattle.std.proofs.lemmas.Bool.{false≢true}
-use Rattle.std.proofs.lemmas.Bool.Decides.{Decides-int_eq}
+use Rattle.std.proofs.lemmas.Bool.Decides.{Decides-int_eq, nat_tests}
 use Rattle.evm_cells.specs.Limits.{limit, ints, cell_coords, point_coords, is_cell_coord, is_point_coord}
 use Rattle.evm_cells.specs.Booleans.{xor}
 use Rattle.evm_cells.specs.Vertices.{touch}
@@ -206,10 +206,25 @@ pub touch_twice : (n : ℕ) (s : ℤ) → is_cell_coord n s ≡ true → xsum (�
 touch_twice n s h =
     sum_points n s (λ p. true) ∙ ap₂ xor (ap (λ b. b && true) (cell-next n s h)) (ap (λ b. b && true) (cell-point n s h)) ∙ xor_self true
 
+-- from dimension 6 on the limit is one
+limit-deep : (n : ℕ) → 6 ≤ n → limit n ≡ limit 6
+unfolding limit
+limit-deep n l =
+    let a : nat_le n 3 ≡ false = grind (arith, nat_tests) in
+    let b : nat_eq n 4 ≡ false = grind (arith, nat_tests) in
+    let c : nat_eq n 5 ≡ false = grind (arith, nat_tests) in
+    rw (a, b, c) refl
+
 -- the limits never grow with the dimension
 pub limit-falls : (n : ℕ) → limit (suc n) ≤ limit n
 unfolding limit
-limit-falls n = omega arith
+limit-falls zero = omega arith
+limit-falls (suc zero) = omega arith
+limit-falls (suc (suc zero)) = omega arith
+limit-falls (suc (suc (suc zero))) = omega arith
+limit-falls (suc (suc (suc (suc zero)))) = omega arith
+limit-falls (suc (suc (suc (suc (suc zero))))) = omega arith
+limit-falls (suc (suc (suc (suc (suc (suc n)))))) = let a = limit-deep (suc (suc (suc (suc (suc (suc n)))))) (omega arith) in let b = limit-deep (suc (suc (suc (suc (suc (suc (suc n))))))) (omega arith) in omega (arith, a, b)
 
 pub cell_coord-falls : (n : ℕ) (x : ℤ) → is_cell_coord (suc n) x ≡ true → is_cell_coord n x ≡ true
 cell_coord-falls n x h = let (a, b) = cell_is (suc n) x h in let l = limit-falls n in cell_yes n x (omega (arith, int_facts)) (omega (arith, int_facts))

@@ -1,18 +1,18 @@
 -- Cell sets that lose or gain an axis, and their extreme vertices.
-use Rattle.std.proofs.Common.{◌≡◌, ℕ, zero, suc, ◌<◌, ◌≤◌, Bool, true, false, cond, ◌&&◌, ◌||◌, List, [], ◌∷◌, length, filter, count_by, ℤ, pos, negsuc, neg_ℤ, ◌+ℤ◌, ◌-ℤ◌, ◌≤ℤ◌, ◌<ℤ◌, refl, sym, ap, ap₂, ◌∙◌, arith, int_le, int_lt, int_eq, ⊎_elim}
+use Rattle.std.proofs.Common.{◌≡◌, ℕ, zero, suc, ◌<◌, ◌≤◌, Bool, true, false, cond, ◌&&◌, ◌||◌, List, [], ◌∷◌, length, filter, count_by, ℤ, pos, negsuc, neg_ℤ, ◌+ℤ◌, ◌-ℤ◌, ◌≤ℤ◌, ◌<ℤ◌, nat_abs, refl, sym, ap, ap₂, ◌∙◌, arith, int_le, int_lt, int_eq, ⊎_elim}
 use Rattle.std.specs.List.{list_all, list_any}
 use Rattle.std.proofs.lemmas.Bool.{false≢true, or_cases, or_left, or_right}
 use Rattle.std.proofs.lemmas.Int.{ints as int_facts}
 use Rattle.evm_cells.specs.Places.{same, has, each, without, with_at}
-use Rattle.evm_cells.specs.Limits.{limit, every_cell, cell_coords, is_cell, is_point, is_cell_coord, is_point_coord, IsCellSet}
+use Rattle.evm_cells.specs.Limits.{limit, ints, every_cell, cell_coords, is_cell, is_point, is_cell_coord, is_point_coord, IsCellSet}
 use Rattle.evm_cells.specs.Booleans.{xor, xor_cells}
 use Rattle.evm_cells.specs.Vertices.{evm, cells, touch, odd, IsVertexList}
 use Rattle.evm_cells.specs.Sections.{slice, couplet}
-use Rattle.evm_cells.specs.Shapes.{fronted, unfronted, front, proj, lift}
+use Rattle.evm_cells.specs.Shapes.{fronted, unfronted, front, proj, lift, lift_fits}
 use Rattle.evm_cells.proofs.Xor.{xsum, xsum-same_on, xor-and, and_first, and_second, and_both, and-false, and-true, odd-count}
 use Rattle.evm_cells.proofs.Sum.{xsum-none, xsum-xor}
-use Rattle.evm_cells.proofs.Order.{same_tests, refuted}
-use Rattle.evm_cells.proofs.Coords.{eq_yes, eq_is, eq_no, le_yes, le_no, le_is, lt_yes, lt_no, lt_is, by_order, cell_is, cell_yes, point_is, any-cell_coords}
+use Rattle.evm_cells.proofs.Order.{same_tests, refuted, at_member}
+use Rattle.evm_cells.proofs.Coords.{eq_yes, eq_is, eq_no, le_yes, le_no, le_is, lt_yes, lt_no, lt_is, by_order, cell_is, cell_yes, point_is, any-cell_coords, any-ints, strict_ints}
 use Rattle.evm_cells.proofs.Places.{strict_places, has-any}
 use Rattle.evm_cells.proofs.Universe.{absorb, guarded, cell_parts, cell_from, point_parts, same_sets, member_passes, xsum-same_place, has-cells, cell_set-cells}
 use Rattle.evm_cells.proofs.Combine.{cell_set-filter, has-evm-xor}
@@ -125,11 +125,6 @@ with_at-without i [] l = absurd (omega arith)
 with_at-without zero (x ∷ p) l = refl
 with_at-without (suc i) (x ∷ p) l = ap (λ z. x ∷ z) (with_at-without i p (omega arith))
 
--- the limits of all dimensions are one
-cell_coord-any : (m n : ℕ) (x : ℤ) → is_cell_coord m x ≡ is_cell_coord n x
-unfolding is_cell_coord limit
-cell_coord-any m n x = refl
-
 abbrev between : ℤ → ℤ → ℤ → Bool
 between lo hi k = int_le lo k && int_lt k hi
 
@@ -141,22 +136,30 @@ pub cell_set-lift : (n i : ℕ) (lo hi : ℤ) (S : List (List ℤ)) → IsCellSe
 unfolding lift
 cell_set-lift n i lo hi S = cell_set-filter n (λ d. has S (without i d) && between lo hi (coord i d))
 
-lifted_cell : (n i : ℕ) (lo hi k : ℤ) (c : List ℤ) → is_point_coord (suc n) lo ≡ true → is_point_coord (suc n) hi ≡ true → is_cell n c ≡ true → between lo hi k ≡ true → is_cell (suc n) (with_at i k c) ≡ true
-lifted_cell n i lo hi k c a b h r =
-    let (e, w) = cell_parts n c h in
-    let (u, v) = point_is (suc n) lo a in
-    let (x, y) = point_is (suc n) hi b in
-    let z = length-with_at i k c in
-    let p : lo ≤ℤ k = le_is lo k (and_first (int_le lo k) (int_lt k hi) r) in
-    let q : k <ℤ hi = lt_is k hi (and_second (int_le lo k) (int_lt k hi) r) in
-    cell_from (suc n) (with_at i k c) (z ∙ ap suc e)
-    (all-with_at (is_cell_coord (suc n)) i k c
-    ∙ and_both (is_cell_coord (suc n) k) (list_all (is_cell_coord (suc n)) c) (cell_yes (suc n) k (omega (arith, int_facts)) (omega (arith, int_facts)))
-    (ap (λ f. list_all f c) (λ j m. cell_coord-any (suc n) n m j) ∙ w))
+length_between : (lo hi : ℤ) → lo <ℤ hi → pos (nat_abs (hi -ℤ lo)) ≡ hi -ℤ lo
+length_between lo hi l = at (hi -ℤ lo) refl
+  where
+    at : (d : ℤ) → hi -ℤ lo ≡ d → pos (nat_abs d) ≡ d
+    at (pos m) e = refl
+    at (negsuc m) e = absurd (omega (arith, int_facts))
+
+-- the heights of a prism are those between its ends
+pub heights_are : (lo hi k : ℤ) → int_lt lo hi ≡ true → list_any (int_eq k) (ints lo (nat_abs (hi -ℤ lo))) ≡ between lo hi k
+heights_are lo hi k m =
+    let l : lo <ℤ hi = lt_is lo hi m in
+    let d : pos (nat_abs (hi -ℤ lo)) ≡ hi -ℤ lo = length_between lo hi l in
+    any-ints k lo (nat_abs (hi -ℤ lo)) ∙ ap (λ t. int_le lo k && int_lt k t) (let e : lo +ℤ pos (nat_abs (hi -ℤ lo)) ≡ hi = omega (arith, int_facts, d) in e)
+
+pub lifted_cell : (n i : ℕ) (lo hi k : ℤ) (S : List (List ℤ)) (c : List ℤ) → int_lt lo hi ≡ true → lift_fits n i lo hi S ≡ true → has S c ≡ true → between lo hi k ≡ true
+    → is_cell n (with_at i k c) ≡ true
+unfolding lift_fits
+lifted_cell n i lo hi k S c m f h r =
+    at_member int_eq int_lt strict_ints (λ j. is_cell n (with_at i j c)) k (ints lo (nat_abs (hi -ℤ lo))) (heights_are lo hi k m ∙ r)
+    (member_passes (λ d. list_all (λ j. is_cell n (with_at i j d)) (ints lo (nat_abs (hi -ℤ lo)))) S c f h)
 
 -- a section of the prism is its base, or empty
-slice-lift : (n i : ℕ) (lo hi k : ℤ) (S : List (List ℤ)) → i < suc n → IsCellSet n S → is_point_coord (suc n) lo ≡ true → is_point_coord (suc n) hi ≡ true → slice n i k (lift (suc n) i lo hi S) ≡ cond (between lo hi k) S []
-slice-lift n i lo hi k S l h a b = at (between lo hi k) refl
+slice-lift : (n i : ℕ) (lo hi k : ℤ) (S : List (List ℤ)) → i < suc n → IsCellSet n S → int_lt lo hi ≡ true → lift_fits (suc n) i lo hi S ≡ true → slice n i k (lift (suc n) i lo hi S) ≡ cond (between lo hi k) S []
+slice-lift n i lo hi k S l h b f = at (between lo hi k) refl
   where
     T : List (List ℤ)
     T = lift (suc n) i lo hi S
@@ -168,7 +171,7 @@ slice-lift n i lo hi k S l h a b = at (between lo hi k) refl
         (λ m. let (e, w) = cell_parts n c m in
         has-lift (suc n) i lo hi S (with_at i k c)
         ∙ ap (λ t. is_cell (suc n) (with_at i k c) && t) (ap₂ (λ d j. has S d && between lo hi j) (without-with_at i k c (omega arith)) (coord-with_at i k c (omega arith)))
-        ∙ absorb (is_cell (suc n) (with_at i k c)) (has S c && between lo hi k) (λ r. lifted_cell n i lo hi k c a b m (and_second (has S c) (between lo hi k) r)))
+        ∙ absorb (is_cell (suc n) (with_at i k c)) (has S c && between lo hi k) (λ r. lifted_cell (suc n) i lo hi k S c b f (and_first (has S c) (between lo hi k) r) (and_second (has S c) (between lo hi k) r)))
         (λ r. member_passes (is_cell n) S c h.cells (and_first (has S c) (between lo hi k) r))
 
     at : (t : Bool) → between lo hi k ≡ t → slice n i k T ≡ cond (between lo hi k) S []
@@ -200,16 +203,16 @@ ends_of lo hi x h =
     (λ u. rw (eq_no lo x (λ e. omega (arith, int_facts)), eq_yes hi x (sym u), le_yes lo (x -ℤ pos 1) (omega (arith, int_facts)), le_yes lo x (omega (arith, int_facts)), lt_yes (x -ℤ pos 1) hi (omega (arith, int_facts)), lt_no x hi (omega (arith, int_facts))))
     (λ u. rw (eq_no lo x (λ e. omega (arith, int_facts)), eq_no hi x (λ e. omega (arith, int_facts)), le_yes lo (x -ℤ pos 1) (omega (arith, int_facts)), le_yes lo x (omega (arith, int_facts)), lt_no (x -ℤ pos 1) hi (omega (arith, int_facts)), lt_no x hi (omega (arith, int_facts)))))
 
-pub has-evm-lift : (n i : ℕ) (lo hi : ℤ) (S : List (List ℤ)) (p : List ℤ) → i < suc n → IsCellSet n S → length p ≡ suc n → is_point_coord (suc n) lo ≡ true → is_point_coord (suc n) hi ≡ true → int_lt lo hi ≡ true
+pub has-evm-lift : (n i : ℕ) (lo hi : ℤ) (S : List (List ℤ)) (p : List ℤ) → i < suc n → IsCellSet n S → length p ≡ suc n → int_lt lo hi ≡ true → lift_fits (suc n) i lo hi S ≡ true
     → has (evm (suc n) (lift (suc n) i lo hi S)) p ≡ ((int_eq lo (coord i p) || int_eq hi (coord i p)) && has (evm n S) (without i p))
 unfolding couplet
-has-evm-lift n i lo hi S p l h e a b m =
+has-evm-lift n i lo hi S p l h e m f =
     let T : List (List ℤ) = lift (suc n) i lo hi S in
     let x : ℤ = coord i p in
     let w : suc (length (without i p)) ≡ length p = length-without i p (omega arith) in
     ap (has (evm (suc n) T)) (sym (with_at-without i p (omega arith)))
     ∙ sym (couplet_vertices n i x T (without i p) (cell_set-lift (suc n) i lo hi S) l (omega arith))
-    ∙ ap₂ (λ A B. has (evm n (xor_cells n A B)) (without i p)) (slice-lift n i lo hi (x -ℤ pos 1) S l h a b) (slice-lift n i lo hi x S l h a b)
+    ∙ ap₂ (λ A B. has (evm n (xor_cells n A B)) (without i p)) (slice-lift n i lo hi (x -ℤ pos 1) S l h m f) (slice-lift n i lo hi x S l h m f)
     ∙ has-evm-xor n (cond (between lo hi (x -ℤ pos 1)) S []) (cond (between lo hi x) S []) (without i p) (cell_set-chosen n (between lo hi (x -ℤ pos 1)) S h) (cell_set-chosen n (between lo hi x) S h)
     ∙ ap₂ xor (has-evm-chosen n (between lo hi (x -ℤ pos 1)) S (without i p)) (has-evm-chosen n (between lo hi x) S (without i p))
     ∙ sym (xor-and (between lo hi (x -ℤ pos 1)) (between lo hi x) (has (evm n S) (without i p)))

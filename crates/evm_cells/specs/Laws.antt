@@ -84,6 +84,10 @@ BoundaryBySections = (n : ℕ) (S : List (List ℤ)) → IsCellSet (suc n) S
 abbrev pub AroundPoint : Type 0
 AroundPoint = (S : List (List ℤ)) (p : List ℤ) → ascending S ≡ true → around S p ≡ count_by (has S) (neighbours p)
 
+-- the limit never grows with the dimension, so what loses an axis stays within the limits
+abbrev pub LimitFalls : Type 0
+LimitFalls = (n : ℕ) → limit (suc n) ≤ limit n
+
 -- the list of the cells that pass a test ascends, and has exactly those
 abbrev pub CellsThatPass : Type 0
 CellsThatPass = (n : ℕ) (test : List ℤ → Bool) → (ascending (cells_where n test) ≡ true) × ((c : List ℤ) → has (cells_where n test) c ≡ (is_cell n c && test c))

@@ -1,12 +1,17 @@
 -- Cells and points of a dimension: the places within its limit.
 --     A cell c stands for the closed unit cube from c to c + 1 on each axis; a point is a corner that such cubes may have.
-use Rattle.std.specs.Prelude.{◌≡◌, ℕ, zero, suc, ◌+◌, ◌*◌, Bool, true, ◌&&◌, ◌==◌, ℤ, pos, neg_ℤ, ◌+ℤ◌, int_le, int_lt, List, [], ◌∷◌, map, flat_map, filter, length}
+use Rattle.std.specs.Prelude.{◌≡◌, ℕ, zero, suc, ◌+◌, ◌*◌, Bool, true, ◌&&◌, ◌==◌, nat_le, nat_eq, if◌then◌else◌, ℤ, pos, neg_ℤ, ◌+ℤ◌, int_le, int_lt, List, [], ◌∷◌, map, flat_map, filter, length}
 use Rattle.std.specs.List.{list_all}
 use Rattle.evm_cells.specs.Places.{ascending}
 
--- the limit of all coordinates in dimension n (this project's own)
+-- the limit of all coordinates in dimension n: it never grows with the dimension, and leaves (2 limit) ^ n, the number of all cells,
+-- at most 2 ^ 120 up to dimension 6 (this project's own)
 unfoldable pub limit : ℕ → ℕ
-limit n = 524288
+limit n =
+    if nat_le n 3 then 1073741824
+    else if nat_eq n 4 then 268435456
+    else if nat_eq n 5 then 4194304
+    else 524288
 
 -- the coordinates of cells of dimension n: from -limit n up to limit n - 1
 unfoldable pub is_cell_coord : ℕ → ℤ → Bool

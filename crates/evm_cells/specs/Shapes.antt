@@ -1,9 +1,9 @@
 -- Shapes of cell sets, cell by cell, and the moves of points that go with them. The number n is the dimension of the result;
 -- axes are counted from 0.
-use Rattle.std.specs.Prelude.{ℕ, zero, suc, ◌*◌, Bool, ◌&&◌, ◌==◌, ℤ, pos, negsuc, neg_ℤ, ◌+ℤ◌, ◌-ℤ◌, int_le, int_lt, List, [], ◌∷◌, length, map, filter, get_or, swap}
+use Rattle.std.specs.Prelude.{ℕ, zero, suc, ◌*◌, Bool, ◌&&◌, ◌==◌, ℤ, pos, negsuc, neg_ℤ, ◌+ℤ◌, ◌-ℤ◌, int_le, int_lt, List, [], ◌∷◌, length, map, filter, get_or, swap, nat_abs}
 use Rattle.std.specs.List.{list_any, list_all}
 use Rattle.evm_cells.specs.Places.{has, same, without, with_at}
-use Rattle.evm_cells.specs.Limits.{cells_where, is_cell, limit}
+use Rattle.evm_cells.specs.Limits.{cells_where, is_cell, ints, limit}
 use Rattle.evm_cells.specs.Booleans.{and_cells}
 use Rattle.evm_cells.specs.Boxes.{box_cells}
 
@@ -53,9 +53,14 @@ clip n lo hi S = and_cells n S (box_cells n lo hi)
 unfoldable pub proj : ℕ → ℕ → List (List ℤ) → List (List ℤ)
 proj n i S = cells_where n (λ c. list_any (λ s. same (without i s) c) S)
 
--- the prism over S: the cells that are a cell of S with some height from lo up to, but not at, hi put in at axis i (this project's own)
+-- the prism over S: the cells that are a cell of S with some height from lo up to, but not at, hi put in at axis i (this project's own).
+-- Places past the limit of dimension n are left out
 unfoldable pub lift : ℕ → ℕ → ℤ → ℤ → List (List ℤ) → List (List ℤ)
 lift n i lo hi S = cells_where n (λ c. has S (without i c) && (int_le lo (get_or c i (pos 0)) && int_lt (get_or c i (pos 0)) hi))
+
+-- the prism is in range: each cell of S with each of these heights put in is a cell of dimension n
+unfoldable pub lift_fits : ℕ → ℕ → ℤ → ℤ → List (List ℤ) → Bool
+lift_fits n i lo hi S = list_all (λ c. list_all (λ k. is_cell n (with_at i k c)) (ints lo (nat_abs (hi -ℤ lo)))) S
 
 -- a place with its coordinate on axis i put first
 unfoldable pub fronted : ℕ → List ℤ → List ℤ

@@ -11,13 +11,31 @@ use std::marker::Model;
 pub const DIM_MAX: usize = 6;
 
 /// The limit of coordinates in dimension `dim`: those of vertices go from minus the limit up to the limit, those of
-/// cells up to one less. It is 524288 in each dimension. Takes no memory.
-pub fn limit(_dim: usize) -> i32
-    requires low { 0 < _dim }
-    requires high { _dim ≤ 6 }
-    ensures { result ≡ pos (limit _dim) }
+/// cells up to one less.
+///
+/// | dimension | limit |
+/// |---|---|
+/// | 1 to 3 | 1073741824 |
+/// | 4 | 268435456 |
+/// | 5 | 4194304 |
+/// | 6 | 524288 |
+///
+/// It never grows with the dimension, and leaves content and boundary content in 128 bits. Takes no memory.
+#[tactic(auto, unfolding(evm_cells::specs::Limits::limit))]
+pub fn limit(dim: usize) -> i32
+    requires low { 0 < dim }
+    requires high { dim ≤ 6 }
+    ensures { result ≡ pos (limit dim) }
 {
-    524_288
+    if dim <= 3 {
+        1_073_741_824
+    } else if dim == 4 {
+        268_435_456
+    } else if dim == 5 {
+        4_194_304
+    } else {
+        524_288
+    }
 }
 
 /// There was no memory.

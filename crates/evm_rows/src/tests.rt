@@ -63,12 +63,13 @@ fn has_rows(solid: &Solid, rows: &[[i32; 2]]) -> bool {
 fn makes_boxes(rt: HostRuntime) {
     let first = Solid::of_box(rt.alloc(), &[0, 0], &[2, 3]).expect(&rt, "memory");
     assert!(rt; has_rows(&first, &[[0, 0], [0, 3], [2, 0], [2, 3]]));
-    let limit = 524_288;
-    let table: [(&[i32], &[i32]); 4] = [
+    let table: [(&[i32], &[i32]); 6] = [
         (&[0, 1], &[2, 1]),
-        (&[-limit - 1], &[0]),
-        (&[0, 0, 0], &[1, 1, limit + 1]),
-        (&[5, 5, 5, 5, 5, 5], &[6, 6, 6, 6, 6, 4]),
+        (&[-1_073_741_825], &[0]),
+        (&[0, 0, 0], &[1, 1, 1_073_741_825]),
+        (&[0, 0, 0, 0], &[1, 268_435_457, 1, 1]),
+        (&[0, 0, -4_194_305, 0, 0], &[1, 1, 1, 1, 1]),
+        (&[5, 5, 5, 5, 5, 5], &[6, 6, 6, 6, 6, 524_289]),
     ];
     for (lo, hi) in table {
         if lo.len() == 0 || 6 < lo.len() || hi.len() != lo.len() {
@@ -79,8 +80,16 @@ fn makes_boxes(rt: HostRuntime) {
             Some(BoxError::Range)
         );
     }
-    let cube = Solid::of_box(rt.alloc(), &[-limit; 6], &[limit; 6]).expect(&rt, "memory");
+    let cube = Solid::of_box(rt.alloc(), &[-524_288; 6], &[524_288; 6]).expect(&rt, "memory");
     assert_eq!(rt; cube.len(), 64);
+    let far = 1_073_741_824;
+    let square = Solid::of_box(rt.alloc(), &[-far; 2], &[far; 2]).expect(&rt, "memory");
+    assert!(rt;
+        has_rows(
+            &square,
+            &[[-far, -far], [-far, far], [far, -far], [far, far]]
+        )
+    );
 }
 
 #[test]
