@@ -21,8 +21,8 @@ fn checks_rows(rt: HostRuntime) {
         (2, &[0, 0, 1, 0], Some(RowError::Odd(2))),
         (2, &[0, 1, 0, 0], Some(RowError::Order(1))),
         (2, &[9, 9, 0, 0, 2_000_000_000, 0], Some(RowError::Range(2))),
-        (1, &[-524_288, 524_288], None),
-        (1, &[-524_289, 0], Some(RowError::Range(0))),
+        (1, &[-1_073_741_824, 1_073_741_824], None),
+        (1, &[-1_073_741_825, 0], Some(RowError::Range(0))),
         (1, &[0, 3, 5], Some(RowError::Odd(1))),
         (1, &[7, 7], Some(RowError::Order(1))),
         (
@@ -33,7 +33,7 @@ fn checks_rows(rt: HostRuntime) {
         (4, &[0, 0, 0, 0, 1, 0, 0, 0], Some(RowError::Odd(2))),
         (
             5,
-            &[0, 0, 0, 0, 0, 0, 0, 0, 1, 524_289],
+            &[0, 0, 0, 0, 0, 0, 0, 0, 1, 4_194_305],
             Some(RowError::Range(1)),
         ),
         (
