@@ -4,7 +4,7 @@ use Rattle.std.specs.Prelude.{nat_abs}
 use Rattle.std.specs.List.{list_any}
 use Rattle.evm_script.specs.declared.formula.Formula.{Formula}
 use Rattle.evm_script.specs.declared.formula.Formula.TheVariants.{Or, And, Sub, Xor, Box, Shift, Mirror, Swap, Clip, Slice, Proj, Lift}
-use Rattle.evm_model.specs.Figures.{Figure, nothing, or_of, and_of, sub_of, xor_of, shift_of, shift_stays, mirror_of, swap_of, clip_of, slice_of, proj_of, lift_of}
+use Rattle.evm_model.specs.Figures.{Figure, nothing, or_of, and_of, sub_of, xor_of, shift_of, shift_stays, mirror_of, swap_of, clip_of, slice_of, proj_of, lift_of, lift_stays}
 use Rattle.evm_model.specs.Orders.{is_among, AllSeen, Ordered}
 use Rattle.evm_model.specs.Scene.{What, Given, Made, Entry, Scene, entry_of, stands, operands, what_operands, entry_operands, operands_of, formula_value, formula_stays, what_value, what_stays, entry_value, value_within, value, reaches_within, reaches}
 use Rattle.evm_model.proofs.Names.{by_test, by_among, not_both, or_left, or_right, among_here, among_later, among_none, apart_back, any_among, none_passes}
@@ -94,7 +94,7 @@ formula_stays_same (Swap a i j) g h same = refl
 formula_stays_same (Clip a nums) g h same = refl
 formula_stays_same (Slice a axis at) g h same = refl
 formula_stays_same (Proj a axis) g h same = refl
-formula_stays_same (Lift a axis lo hi) g h same = refl
+formula_stays_same (Lift a axis lo hi) g h same = ap (lift_stays (nat_abs axis) lo hi) (same a (among_here a []))
 
 pub what_stays_same : (what : What) (g h : List ℕ → Figure) → ((o : List ℕ) → is_among o (what_operands what) ≡ true → g o ≡ h o) → what_stays what g ≡ what_stays what h
 what_stays_same (Given cells) g h same = refl

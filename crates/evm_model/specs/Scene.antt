@@ -6,7 +6,7 @@ use Rattle.evm_cells.specs.Limits.{is_cell, is_cell_coord, is_point_coord}
 use Rattle.evm_cells.specs.Shapes.{is_shift}
 use Rattle.evm_script.specs.declared.formula.Formula.{Formula}
 use Rattle.evm_script.specs.declared.formula.Formula.TheVariants.{Or, And, Sub, Xor, Box, Shift, Mirror, Swap, Clip, Slice, Proj, Lift}
-use Rattle.evm_model.specs.Figures.{Figure, nothing, box_at, box_fits, low_of, high_of, or_of, and_of, sub_of, xor_of, shift_of, shift_stays, mirror_of, swap_of, clip_of, slice_of, proj_of, lift_of}
+use Rattle.evm_model.specs.Figures.{Figure, nothing, box_at, box_fits, low_of, high_of, or_of, and_of, sub_of, xor_of, shift_of, shift_stays, mirror_of, swap_of, clip_of, slice_of, proj_of, lift_of, lift_stays}
 use Rattle.evm_model.specs.Orders.{is_among, Ordered}
 
 -- what a name stands for: the cells of an input, or a formula
@@ -105,7 +105,7 @@ formula_value (Slice a axis height) at = slice_of (nat_abs axis) height (at a)
 formula_value (Proj a axis) at = proj_of (nat_abs axis) (at a)
 formula_value (Lift a axis lo hi) at = lift_of (nat_abs axis) lo hi (at a)
 
--- whether a formula makes no place that is no cell of its operand's value; a shift alone can
+-- whether a formula makes no place that is no cell of its operand's value; a shift and a lift alone can
 abbrev pub formula_stays : Formula → (List ℕ → Figure) → Bool
 formula_stays (Or a b) at = true
 formula_stays (And a b) at = true
@@ -118,7 +118,7 @@ formula_stays (Swap a i j) at = true
 formula_stays (Clip a nums) at = true
 formula_stays (Slice a axis height) at = true
 formula_stays (Proj a axis) at = true
-formula_stays (Lift a axis lo hi) at = true
+formula_stays (Lift a axis lo hi) at = lift_stays (nat_abs axis) lo hi (at a)
 
 -- the value of what a name stands for, at the values of its operands
 abbrev pub what_value : ℕ → What → (List ℕ → Figure) → Figure
@@ -145,7 +145,7 @@ abbrev pub what_stays : What → (List ℕ → Figure) → Bool
 what_stays (Given cells) at = true
 what_stays (Made formula) at = formula_stays formula at
 
--- whether each shift of a scene makes cells alone
+-- whether each shift and each lift of a scene makes cells alone
 abbrev pub all_stay : Scene → Bool
 all_stay scene = list_all (λ (e : Entry). what_stays e.what (value scene)) scene.entries
 

@@ -8,7 +8,7 @@
 //! input, or a formula over other names, its operands. A **figure** is a cell set with its dimension. The **value** of a name is
 //! a figure: the cells of an input, or what a formula makes of the values of its operands. A name **reaches** its operands and
 //! what they reach. A scene is **well** where names differ, dimensions are 2 to 6, each input is a cell set, each formula fits
-//! its operands, no shift makes a place out of the limits, operands stand, and no name reaches itself.
+//! its operands, no shift and no lift makes a place out of the limits, operands stand, and no name reaches itself.
 //! A **step** is what one line does: its reply, the scene after it, and the file that it places. It is given what a fetch of
 //! each file name gives. A **world** is a scene and the files of a shelf. A **run** takes the lines of a script in order, each
 //! with a mark that says whether it was answered, memory was missing, or the shelf failed; where a shelf does not tell its
