@@ -16,7 +16,7 @@ import struct
 import sys
 
 TOP = pathlib.Path(__file__).resolve().parent.parent
-LIMIT = 524288
+LIMITS = {1: 1073741824, 2: 1073741824, 3: 1073741824, 4: 268435456, 5: 4194304, 6: 524288}
 MOST_CELLS = 2_000_000
 FORMS = [form.split() for form in """
 input NAME NUMBER; drop NAME; list; show NAME; content NAME; boundary NAME
@@ -47,6 +47,21 @@ def refuse_if(cause, code):
 
 
 # Cells
+
+def is_point(numbers):
+    """Whether these are the coordinates of a vertex, in the dimension that their number is."""
+    return all(-LIMITS[len(numbers)] <= number <= LIMITS[len(numbers)] for number in numbers)
+
+
+def is_cell(numbers):
+    return all(-LIMITS[len(numbers)] <= number < LIMITS[len(numbers)] for number in numbers)
+
+
+def is_box(numbers):
+    """Whether these are the lower corner of a box and then its upper corner."""
+    low, high = numbers[:len(numbers) // 2], numbers[len(numbers) // 2:]
+    return is_point(low) and is_point(high) and all(map(int.__lt__, low, high))
+
 
 def box_cells(low, high):
     count = 1
@@ -117,10 +132,10 @@ def read_boxes(data, dim, _threshold):
             continue
         if len(line) != 2 * dim or not all(number.fullmatch(word) for word in line):
             return None
-        low, high = [int(word) for word in line[:dim]], [int(word) for word in line[dim:]]
-        if any(a >= b or a < -LIMIT or b > LIMIT for a, b in zip(low, high)):
+        numbers = [int(word) for word in line]
+        if not is_box(numbers):
             return None
-        cells |= box_cells(low, high)
+        cells |= box_cells(numbers[:dim], numbers[dim:])
     return cells
 
 
@@ -145,7 +160,7 @@ def read_pgm(data, dim, threshold):
         if not head:
             return None
         width, height, most = (int(number) for number in head.groups())
-        if not (0 < width <= LIMIT and 0 < height <= LIMIT and 0 < most < 65536):
+        if not (0 < width <= LIMITS[dim] and 0 < height <= LIMITS[dim] and 0 < most < 65536):
             return None
         sizes.add((width, height))
         count, wide = width * height, most > 255
@@ -173,7 +188,7 @@ def read_y4m(data, dim, threshold):
     extra = {b"420": quarter, b"420jpeg": quarter, b"420paldv": quarter, b"420mpeg2": quarter, b"mono": 0,
              b"422": 2 * ((width + 1) // 2) * height, b"444": 2 * width * height}
     kind = kinds[0] if kinds else b"420"
-    if kind not in extra or not (0 < width <= LIMIT and 0 < height <= LIMIT):
+    if kind not in extra or not (0 < width <= LIMITS[dim] and 0 < height <= LIMITS[dim]):
         return None
     images = []
     while rest:
@@ -198,7 +213,7 @@ def read_evm(data, dim, _threshold):
     if (magic, version, stated, zero) != (b"NEVM", 1, dim, 0) or len(data) != 16 + 4 * dim * count:
         return None
     rows = [row for row in struct.iter_unpack(f">{dim}i", data[16:])]
-    if any(abs(number) > LIMIT for row in rows for number in row) or any(a >= b for a, b in zip(rows, rows[1:])):
+    if not all(map(is_point, rows)) or any(a >= b for a, b in zip(rows, rows[1:])):
         return None
     return cells_of_vertices(rows, dim)
 
@@ -217,9 +232,10 @@ def has_form(words, form):
                                            for word, want in zip(words, form))
 
 
-def is_box(numbers):
-    half = len(numbers) // 2
-    return all(-LIMIT <= low < high <= LIMIT for low, high in zip(numbers[:half], numbers[half:]))
+def in_range(places):
+    """The places that a shift or a lift gives, where each is a cell."""
+    refuse_if(not all(map(is_cell, places)), "range")
+    return places
 
 
 class Session:
@@ -274,9 +290,7 @@ class Session:
             return box_cells(numbers[:half], numbers[half:])
         cells = self.value(first)
         if operator == "shift":
-            result = {tuple(map(int.__add__, cell, numbers)) for cell in cells}
-            refuse_if(any(not -LIMIT <= number < LIMIT for cell in result for number in cell), "range")
-            return result
+            return in_range({tuple(map(int.__add__, cell, numbers)) for cell in cells})
         if operator == "clip":
             return {cell for cell in cells if all(low <= number < high for low, number, high in zip(numbers, cell, numbers[half:]))}
         axis = numbers[0] - 1
@@ -290,7 +304,9 @@ class Session:
             return slice_cells(cells, axis, numbers[1])
         if operator == "proj":
             return project_cells(cells, axis)
-        return {with_at(cell, axis, number) for cell in cells for number in range(numbers[1], numbers[2])}
+        if len(cells) * (numbers[2] - numbers[1]) > MOST_CELLS:
+            raise TooLarge
+        return in_range({with_at(cell, axis, number) for cell in cells for number in range(numbers[1], numbers[2])})
 
     def reaches(self, name, goal):
         return name == goal or any(self.reaches(each, goal) for each in self.operands(name))
@@ -374,7 +390,7 @@ class Session:
 
     def section(self, name, axis, height):
         refuse_if(not 1 <= int(axis) <= self.dim[name], "dim")
-        refuse_if(not -LIMIT <= int(height) < LIMIT, "range")
+        refuse_if(not is_height(int(height), self.dim[name]), "range")
         return shown(slice_cells(self.cells[name], int(axis) - 1, int(height)), self.dim[name] - 1)
 
     def project(self, name, axis):
@@ -384,18 +400,23 @@ class Session:
     def at(self, name, *words):
         cell = tuple(int(word) for word in words)
         refuse_if(len(cell) != self.dim[name], "dim")
-        refuse_if(not all(-LIMIT <= number < LIMIT for number in cell), "range")
+        refuse_if(not is_cell(cell), "range")
         return ["ok filled" if cell in self.cells[name] else "ok empty"]
 
     def point(self, name, *words):
         point = tuple(int(word) for word in words)
         refuse_if(len(point) != self.dim[name], "dim")
-        refuse_if(not all(-LIMIT <= number <= LIMIT for number in point), "range")
+        refuse_if(not is_point(point), "range")
         filled = [cell in self.cells[name] for cell in itertools.product(*((number - 1, number) for number in point))]
         return ["ok inside" if all(filled) else "ok boundary" if any(filled) else "ok outside"]
 
 
 setattr(Session, "def", Session.define)
+
+
+def is_height(number, dim):
+    """Whether this is the coordinate of a cell of a solid of this dimension."""
+    return -LIMITS[dim] <= number < LIMITS[dim]
 
 
 def shape(operator, dims, numbers):
@@ -405,16 +426,19 @@ def shape(operator, dims, numbers):
     if operator in BOOLEANS:
         return (dim if dims[1] == dim else None), True
     if operator == "box":
-        return (dim if 2 <= dim <= 6 and len(numbers) == 2 * dim + 1 else None), is_box(numbers[1:])
+        fits = 2 <= dim <= 6 and len(numbers) == 2 * dim + 1
+        return (dim if fits else None), fits and is_box(numbers[1:])
     if operator == "shift":
-        return (dim if len(numbers) == dim else None), all(abs(number) <= 2 * LIMIT for number in numbers)
+        return (dim if len(numbers) == dim else None), all(abs(number) <= 2 * LIMITS[dim] for number in numbers)
     if operator == "clip":
-        return (dim if len(numbers) == 2 * dim else None), is_box(numbers)
+        fits = len(numbers) == 2 * dim
+        return (dim if fits else None), fits and is_box(numbers)
     if operator in ("mirror", "swap"):
         return (dim if all(axis in axes for axis in numbers) else None), True
     if operator == "lift":
-        return (dim + 1 if dim < 6 and 1 <= numbers[0] <= dim + 1 else None), is_box(numbers[1:])
-    return (dim - 1 if dim > 2 and numbers[0] in axes else None), operator == "proj" or -LIMIT <= numbers[1] < LIMIT
+        fits = dim < 6 and 1 <= numbers[0] <= dim + 1
+        return (dim + 1 if fits else None), fits and -LIMITS[dim + 1] <= numbers[1] < numbers[2] <= LIMITS[dim + 1]
+    return (dim - 1 if dim > 2 and numbers[0] in axes else None), operator == "proj" or is_height(numbers[1], dim)
 
 
 def shown(cells, dim):
