@@ -1,0 +1,50 @@
+"""What the crates define, as the checks on documents ask it: names, contracts, and what stands on what."""
+import re
+
+import shape
+
+from sources import TOP, files
+
+NAME = r"[A-Za-z_][\w'₂-]*"
+ITEM = re.compile(rf"\b(?:fn|struct|enum|trait|mod|const|type|ensures|requires|ghost) ({NAME})")
+VARIANT = re.compile(rf"^ +({NAME})(?:\(.*\))?,$", re.M)
+DEFINITION = re.compile(rf" *(?:(?:pub|abbrev|unfoldable|opaque|data|record) )*({NAME})(?= [:({{])")
+
+
+class Crates:
+    def __init__(self):
+        lines = [line for line in (TOP / "crates.txt").read_text().splitlines() if line and not line.startswith("#")]
+        self.stands_on = {name.split()[0]: below.split() for name, _, below in (line.partition(":") for line in lines)}
+        self.names = {crate: {crate} for crate in self.stands_on}          # items, variants, clauses, modules, definitions
+        self.definitions = {crate: set() for crate in self.stands_on}      # what specs/ define
+        self.contracts = {crate: {} for crate in self.stands_on}           # function -> the lines from its head to its body
+        for path, lines in files(".rt", ".antt").items():
+            crate = path.split("/")[1]
+            if crate in self.names and "/proofs/" not in path:
+                self.names[crate] |= set(re.split(r"[/.]", path))
+                self.read_code(crate, lines) if path.endswith(".rt") else self.read_specs(crate, lines)
+
+    def read_code(self, crate: str, lines: list[str]):
+        text = "\n".join(line for line in lines if not line.lstrip().startswith("//"))
+        self.names[crate] |= {*ITEM.findall(text), *VARIANT.findall(text)}
+        for head, line in enumerate(lines):
+            if shape.FN.match(line):
+                end = next((k for k in range(head + 1, len(lines)) if re.match(r" *(\{|\}|///|pub fn|fn)", lines[k])), len(lines))
+                self.contracts[crate].setdefault(re.search(rf"fn ({NAME})", line)[1], []).extend(lines[head:end])
+
+    def read_specs(self, crate: str, lines: list[str]):
+        found = {match[1] for line in lines if (match := DEFINITION.match(line))}
+        self.names[crate] |= found
+        self.definitions[crate] |= found
+
+    def every_name(self) -> set[str]:
+        return set().union(*self.names.values())
+
+    def contract(self, crate: str, functions: list[str]) -> str:
+        """The contracts of these functions, of whatever type each is."""
+        return "\n".join(line for name in functions for line in self.contracts[crate].get(name.split("::")[-1], []))
+
+    def below(self, crate: str) -> set[str]:
+        """The crates that it stands on, at any depth."""
+        near = {each for each in self.stands_on.get(crate, []) if each in self.stands_on}
+        return near.union(*map(self.below, near))
