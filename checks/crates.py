@@ -8,6 +8,8 @@ from sources import TOP, files
 NAME = r"[A-Za-z_][\w'₂-]*"
 ITEM = re.compile(rf"\b(?:fn|struct|enum|trait|mod|const|type|ensures|requires|ghost) ({NAME})")
 VARIANT = re.compile(rf"^ +({NAME})(?:\(.*\))?,$", re.M)
+OWNER = re.compile(rf"impl(?:<.*?>)? ({NAME})")
+PUBLIC = re.compile(rf"( *)pub fn ({NAME})")
 DEFINITION = re.compile(rf" *(?:(?:pub|abbrev|unfoldable|opaque|data|record) )*({NAME})(?= [:({{])")
 
 
@@ -36,6 +38,23 @@ class Crates:
         found = {match[1] for line in lines if (match := DEFINITION.match(line))}
         self.names[crate] |= found
         self.definitions[crate] |= found
+
+    def public(self, crate: str) -> set[str]:
+        """The functions that others may call: free ones as their name, those of a type as `Type::name`."""
+        folder = f"crates/{crate}/src/"
+        code = {path: lines for path, lines in files(".rt").items() if path.startswith(folder) and "tests" not in path}
+        root = code.get(folder + "lib.rt", [])
+        shown = set(re.findall(NAME, " ".join(line for line in root if line.startswith(("pub use", "pub mod")))))
+        found = set()
+        for lines in code.values():
+            owner = ""
+            for line in lines:
+                head, function = OWNER.match(line), PUBLIC.match(line)
+                owner = head[1] if head else owner
+                outer = owner if function and function[1] else function and function[2]
+                if function and (lines is root or outer in shown):
+                    found.add(f"{owner}::{function[2]}" if function[1] else function[2])
+        return found
 
     def every_name(self) -> set[str]:
         return set().union(*self.names.values())

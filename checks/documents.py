@@ -2,7 +2,8 @@
 """The documents name what stands in the tree.
 
 - names in backquotes of PROMISES, DEFINITIONS, ARCHITECTURE, DECISIONS and CONTRIBUTING are crates, files, functions, clauses or definitions that there are;
-- a row of PROMISES names public functions of its crate, and clauses of theirs; a row of ARCHITECTURE a crate that crates.txt has, and what it stands on;
+- a row of PROMISES names functions of its crate, and clauses of theirs, and none that is public is left out; the laws of DEFINITIONS are those of
+  `evm_cells`; a row of ARCHITECTURE names a crate that crates.txt has, and what it stands on;
 - links between documents, and the files that they name, are there;
 - tables are whole;
 - numbers that stand in several places agree.
@@ -132,17 +133,26 @@ def check_promises(tally: Tally, crates: Crates):
             for clause in clauses:
                 stands = re.search(rf"\b{re.escape(clause)}\b", crates.contract(crate, functions))
                 tally.count(stands, f"docs/PROMISES.md: {', '.join(functions)} of {crate} has no clause `{clause}`")
+        spoken = {part for span in SPAN.findall(text) for part in re.findall(NAME, span)}
+        for name in sorted(crates.public(crate)):
+            tally.count(name.split("::")[-1] in spoken, f"docs/PROMISES.md says nothing of `{name}`, which is public in {crate}")
     silent = set(crates.stands_on) - told
     tally.count(not silent, f"docs/PROMISES.md says nothing of {silent}")
 
 
 def check_laws(tally: Tally, crates: Crates):
-    """The tables of laws of DEFINITIONS: each row is a clause of the function of its head, and what the clause states."""
-    for title, text in sections("docs/DEFINITIONS.md", "###"):
+    """The tables of laws of DEFINITIONS: each row is a clause of the function of its head, and what it states; and all clauses stand there."""
+    heads = sections("docs/DEFINITIONS.md", "###")
+    untold = crates.public("evm_cells") - {names_in(title)[0] for title, _ in heads}
+    tally.count(not untold, f"docs/DEFINITIONS.md has no laws of {untold}")
+    for title, text in heads:
         function, rows = names_in(title)[0], [row for _, rows in tables(text.partition("\n## ")[0]) for row in rows[2:]]
         contract = crates.contract("evm_cells", [function])
         for name in (name for row in rows for name in names_in(row[0])):
             tally.count(re.search(rf"\b{name}\b", contract), f"docs/DEFINITIONS.md: {function} has no clause or statement `{name}`")
+        told = {name for row in rows for name in names_in(row[0])}
+        for clause in re.findall(rf"ensures ({NAME})", contract):
+            tally.count(clause in told, f"docs/DEFINITIONS.md: {function} has the clause `{clause}` too")
 
 
 def check_definitions(tally: Tally, crates: Crates):
