@@ -1,19 +1,24 @@
 #!/usr/bin/env python3
-"""Counts the pairs of files that share a run of six telling lines; how many there may be stands in checks/ceilings.txt, and only falls.
+"""Counts what stands twice: pairs of files that share a run of six telling lines, and files that state a limit of coordinates again.
 
-A telling line has eight characters or more, and is neither a comment nor an import. Files are those of Rattle (`.rt`, `.antt`) and Python.
+How many there may be stands in checks/ceilings.txt, and only falls. A telling line has eight characters or more, and is neither a comment nor an
+import. Files are those of Rattle (`.rt`, `.antt`) and Python. The limits of coordinates stand in one definition and one function; elsewhere a number
+such as 524288, or twice that, is counted, but for tests.
 
-    python3 checks/duplicates.py --list     prints the pairs, each with the first run that it shares
+    python3 checks/duplicates.py --list     prints the pairs, each with the first run that it shares, and the files
 """
 import collections
 import itertools
 import re
 import sys
 
+from cells import LIMITS
 from sources import ceilings, files
 from tally import Tally
 
 RUN, SHORTEST = 6, 8
+HOMES = "crates/evm_cells/specs/Limits.antt", "crates/evm_rows/src/solid.rt"
+FILE_MAX = 268435456    # also the most bytes of a file
 SILENT = re.compile(r"//|--|#|(pub )?(ghost )?use |(pub )?mod |import |from .* import ")
 
 
@@ -38,14 +43,27 @@ def shared_runs() -> dict[tuple[str, str], list[tuple[int, int]]]:
     return {pair: sorted(runs) for pair, runs in sorted(pairs.items())}
 
 
+def files_with_limits() -> list[str]:
+    """The files of crates that state a limit of coordinates, or twice one, outside its two homes."""
+    numbers = {str(factor * limit) for limit in LIMITS.values() for factor in (1, 2)} - {str(FILE_MAX)}
+    found = []
+    for path, lines in files(".rt", ".antt").items():
+        words = {word.replace("_", "") for line in lines for word in re.findall(r"[0-9][0-9_]*", line)}
+        if path not in HOMES and "tests" not in path and words & numbers:
+            found.append(path)
+    return found
+
+
 def main() -> int:
-    pairs = shared_runs()
+    pairs, limits = shared_runs(), files_with_limits()
     if "--list" in sys.argv[1:]:
         for (one, other), runs in pairs.items():
             first, second = runs[0]
             print(f"{one}:{first} and {other}:{second}, {len(runs)} runs")
+        print("\n".join(f"{path} states a limit of coordinates" for path in limits))
     tally = Tally("duplicates")
-    tally.at_most("duplicates", len(pairs), ceilings()["duplicates"])
+    tally.at_most(f"pairs of files that share {RUN} lines", len(pairs), ceilings()["duplicates"])
+    tally.at_most("files that state a limit of coordinates again", len(limits), ceilings()["limits_again"])
     return tally.status(f", {len(pairs)} pairs of files share {RUN} lines")
 
 
