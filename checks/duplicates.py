@@ -62,8 +62,8 @@ def main() -> int:
             print(f"{one}:{first} and {other}:{second}, {len(runs)} runs")
         print("\n".join(f"{path} states a limit of coordinates" for path in limits))
     tally = Tally("duplicates")
-    tally.at_most(f"pairs of files that share {RUN} lines", len(pairs), ceilings()["duplicates"])
-    tally.at_most("files that state a limit of coordinates again", len(limits), ceilings()["limits_again"])
+    for name, count in (("duplicates", len(pairs)), ("limits_again", len(limits))):
+        tally.at_most(name, count, ceilings()[name])
     return tally.status(f", {len(pairs)} pairs of files share {RUN} lines")
 
 

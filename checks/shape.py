@@ -1,7 +1,8 @@
 #!/usr/bin/env python3
 """Counts what is too long to read: clause lines, functions and files. What may be stands in checks/ceilings.txt, and only falls.
 
-A clause line is a line of an `ensures` or `requires`, or of the type of a name in `specs/`. A function's length is that of its body.
+A clause line is a line of an `ensures` or `requires`, or of the type of a name in `specs/`; what a definition says in its other lines is counted apart.
+A function's length is that of its body. The line at the end also tells how many lines there are of code with its contracts, of definitions, of proofs.
 
     python3 checks/shape.py --list     prints each place that is too long
 """
@@ -52,35 +53,53 @@ def functions(lines: list[str]):
             yield head, end - start - 1
 
 
-def too_long() -> tuple[dict[str, list[str]], float]:
-    """The places of each kind that are too long, and how many percent of the clause lines are longer than the most should be."""
-    places = {"clauses": [], "functions": [], "files": []}
-    clauses, above = 0, 0
+def definitions(lines: list[str]):
+    """The numbers of the lines of a file of `specs/` that are neither types nor comments nor imports."""
+    typed = set(signatures(lines))
+    return (number for number, line in enumerate(lines, 1) if number not in typed and not re.match(r" *--|use ", line))
+
+
+def sizes() -> str:
+    """How many lines there are of each kind."""
+    kinds = {"of code": "/src/", "of definitions": "/specs/", "of proofs": "/proofs/"}
+    found = files(".rt", ".antt")
+    return ", ".join(f"{sum(len(lines) for path, lines in found.items() if part in path)} {kind}" for kind, part in kinds.items())
+
+
+def clause_lines(path: str, lines: list[str]) -> list[int]:
+    """The numbers of the clause lines of a file."""
+    return list(clauses_of_code(lines) if path.endswith(".rt") else signatures(lines) if "/specs/" in path else ())
+
+
+def too_long() -> dict[str, list[str]]:
+    """The places of each kind that are too long, by the name of their ceiling."""
+    places = {"long_clauses": [], "long_definitions": [], "long_functions": [], "long_files": []}
     for path, lines in files(".rt", ".antt", ".py").items():
-        if len(lines) > FILE:
-            places["files"].append(f"{path}: {len(lines)} lines")
-        numbers = clauses_of_code(lines) if path.endswith(".rt") else signatures(lines) if "/specs/" in path else ()
-        for number in numbers:
-            length = len(lines[number - 1])
-            clauses, above = clauses + 1, above + (length > FEW_ABOVE)
-            if length > CLAUSE:
-                places["clauses"].append(f"{path}:{number}: a clause line of {length} characters")
-        if path.endswith(".rt"):
-            places["functions"] += [f"{path}:{number}: {count} lines" for number, count in functions(lines) if count >= FUNCTION]
-    return places, round(100 * above / max(clauses, 1), 1)
+        def wide(numbers):
+            lengths = ((number, len(lines[number - 1])) for number in numbers)
+            return [f"{path}:{number}: {length} characters" for number, length in lengths if length > CLAUSE]
+        places["long_clauses"] += wide(clause_lines(path, lines))
+        places["long_definitions"] += wide(definitions(lines) if "/specs/" in path else ())
+        bodies = functions(lines) if path.endswith(".rt") else ()
+        places["long_functions"] += [f"{path}:{number}: a function of {count} lines" for number, count in bodies if count >= FUNCTION]
+        places["long_files"] += [f"{path}: {len(lines)} lines"] if len(lines) > FILE else []
+    return places
+
+
+def percent_above() -> float:
+    """How many percent of the clause lines are longer than the most should be."""
+    lengths = [len(lines[number - 1]) for path, lines in files(".rt", ".antt").items() for number in clause_lines(path, lines)]
+    return round(100 * sum(length > FEW_ABOVE for length in lengths) / max(len(lengths), 1), 1)
 
 
 def main() -> int:
-    places, percent = too_long()
+    places, tally = too_long(), Tally("shape")
     if "--list" in sys.argv[1:]:
-        for each in places.values():
-            print("\n".join(each))
-    tally, most = Tally("shape"), ceilings()
-    tally.at_most(f"clause lines above {CLAUSE} characters", len(places["clauses"]), most["long_clauses"])
-    tally.at_most(f"percent of clause lines above {FEW_ABOVE} characters", percent, most["percent_of_clauses_above_100"])
-    tally.at_most(f"functions of {FUNCTION} lines or more", len(places["functions"]), most["long_functions"])
-    tally.at_most(f"files above {FILE} lines", len(places["files"]), most["long_files"])
-    return tally.status()
+        print("\n".join(place for each in places.values() for place in each))
+    counts = {name: len(each) for name, each in places.items()} | {"percent_of_clauses_above_100": percent_above()}
+    for name, count in counts.items():
+        tally.at_most(name, count, ceilings()[name])
+    return tally.status(f"; lines: {sizes()}")
 
 
 if __name__ == "__main__":
