@@ -1,7 +1,7 @@
 #!/usr/bin/env python3
 """The documents name what stands in the tree.
 
-- names in backquotes of PROMISES, DEFINITIONS, ARCHITECTURE, DECISIONS and CONTRIBUTING are crates, files, functions, clauses or definitions that there are;
+- names in backquotes of PROMISES, DEFINITIONS, ARCHITECTURE, DECISIONS and CONTRIBUTING are crates, files, functions, clauses or definitions that stand;
 - a row of PROMISES names functions of its crate, and clauses of theirs, and none that is public is left out; the laws of DEFINITIONS are those of
   `evm_cells`; a row of ARCHITECTURE names a crate that crates.txt has, and what it stands on;
 - links between documents, and the files that they name, are there;
@@ -27,7 +27,7 @@ SPAN = re.compile(r"`([^`\n]+)`")
 # What stands in backquotes and is no name of ours: words of the script language, of std and of other tools, and words of examples.
 WORDS = {word for form in cells.FORMS for word in form} | set("""
 ok no true false syntax missing shelf memory form range taken kind used cycle dim line
-Result Vec i32 pub rt python3 grep out/ NEVM P5 FRAME H2 C420 evm-boxes zz
+Result Vec i32 pub rt python3 git out/ NEVM P5 FRAME H2 C420 evm-boxes zz
 """.split())
 
 
@@ -187,10 +187,12 @@ def check_crates(tally: Tally, crates: Crates):
 # What a number is of, what it is, and where it stands: each place by a pattern, of which every match has to give the number.
 NUMBERS = [
     ("a line", 4096, r"(?:lines?|blank line)\s(?:may\shave|has|of)\s(?:at\smost|more\sthan)\s([\d,]+)\sbytes|[Tt]he longest line, ([\d,]+) bytes"),
-    ("a script", 67108864, r"a\sscript\s([\d,]{6,})|script\shas\smore\sthan\s([\d,]+)\sbytes|most bytes of a script, ([\d,]+)|script of ([\d,]+) spaces"),
+    ("a script", 67108864, r"a\sscript\s([\d,]{6,})|script\shas\smore\sthan\s([\d,]+)\sbytes"
+                           r"|most bytes of a script, ([\d,]+)|script of ([\d,]+) spaces"),
     ("a byte too many", 67108865, r"[Aa]t most ([\d,]{6,}) bytes are taken|where byte ([\d,]+) was"),
     ("a script", "64 MiB", r"script\sof\sat\smost\s(\d+ \wiB)"),
-    ("a file", 268435456, r"(?:has\smore|is\slonger)\sthan\s([\d,]{6,})\sbytes(?! are)(?!; nothing)|\d+ MiB \(([\d,]+) bytes\)|file that is fetched, ([\d,]+)"),
+    ("a file", 268435456, r"(?:has\smore|is\slonger)\sthan\s([\d,]{6,})\sbytes(?! are|; nothing)"
+                          r"|\d+ MiB \(([\d,]+) bytes\)|file that is fetched, ([\d,]+)"),
     ("a file", "256 MiB", r"file[^.\n]*\sat\smost\s(\d+ \wiB)"),
     ("a file name", 64, r"(?:file name\*\* has|file\snames[^.]*:) 1 to (\d+)|`is_file_name name` \| 1 to (\d+)"),
     ("a name", 32, r"A \*\*name\*\* has 1 to (\d+) bytes|`is_name w` \| 1 to (\d+)"),
