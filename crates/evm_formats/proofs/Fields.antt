@@ -11,6 +11,7 @@ use Rattle.evm_cells.specs.Limits.{is_point_coord, limit}
 use Rattle.evm_cells.proofs.Coords.{point_is}
 use Rattle.evm_cells.proofs.Xor.{and_first, and_second}
 use Rattle.evm_formats.specs.File.{field, numbers}
+use Rattle.evm_formats.proofs.Limits.{limit_small}
 
 pow_pos : (n : ℕ) → 0 < 256 ^ n
 pow_pos n = let h = one-le-pow n 256 (omega arith) in omega arith
@@ -58,8 +59,7 @@ field_of_number xs l h =
 
 -- a coordinate in the limits of a dimension fits 32 bits
 limit-fits : (n : ℕ) → limit n < 2 ^ 31
-unfolding limit
-limit-fits n = omega arith
+limit-fits n = omega (arith, limit_small n)
 
 fits_is : (n : ℕ) (z : ℤ) → is_point_coord n z ≡ true → SFits w32 z
 fits_is n z h = let (a, b) = point_is n z h in let l = limit-fits n in search (rules, int_facts)

@@ -7,7 +7,8 @@ use Rattle.evm_cells.specs.Limits.{limit}
 use Rattle.evm_formats.specs.declared.voxels.VoxelError.{VoxelError}
 use Rattle.evm_formats.specs.declared.voxels.VoxelError.TheVariants.{Magic, Header, Shape, Range, Short}
 use Rattle.evm_formats.specs.Images.{Taken, bytes_of, map_ok}
-use Rattle.evm_formats.specs.Header.{is_white, is_digit, is_end, is_blank, begins, after_blank, digits, after_digits, value, spaced_number, Fields, ended, maxval_and_end, height_on, fields}
+use Rattle.evm_text.specs.Numbers.{is_digit, digits_value}
+use Rattle.evm_formats.specs.Header.{is_white, is_end, is_blank, begins, after_blank, digits, after_digits, spaced_number, Fields, ended, maxval_and_end, height_on, fields}
 use Rattle.evm_formats.specs.Pgm.{Shot, shot, image_at, is_magic, are_numbers, in_range, is_shape, is_wide, after_white, taken, later_image}
 use Rattle.evm_formats.specs.Y4m.{cut_at, after_frame, planes_of, planes_at, frame_at}
 use Rattle.evm_formats.proofs.Images.{TakesBytes}
@@ -39,7 +40,7 @@ length-number : (bs : List ℕ) (r : ℕ × List ℕ) → spaced_number bs ≡ S
 unfolding spaced_number
 length-number bs r e = at (begins is_blank bs && begins is_digit (after_blank false bs)) e
   where
-    at : (t : Bool) → cond {A = Option (ℕ × List ℕ)} t (Some (value (digits (after_blank false bs)), after_digits (after_blank false bs))) None ≡ Some r
+    at : (t : Bool) → cond {A = Option (ℕ × List ℕ)} t (Some (digits_value (digits (after_blank false bs)), after_digits (after_blank false bs))) None ≡ Some r
         → length r.1 ≤ length bs
     at true e =
         let q : after_digits (after_blank false bs) ≡ r.1 = cc e in

@@ -1,3 +1,4 @@
+pub mod Limits
 pub mod Fields
 pub mod Frames
 pub mod FileRefusals
@@ -7,3 +8,4 @@ pub mod Lengths
 pub mod ImageSets
 pub mod BoxLines
 pub mod BoxLaws
+pub mod PgmRefusals

@@ -1,13 +1,10 @@
 -- White space, comments and numbers of a PGM header.
-use Rattle.std.specs.Prelude.{ℕ, ◌+◌, ◌-◌, ◌*◌, ◌^◌, ◌==◌, nat_le, Bool, true, false, not, cond, ◌&&◌, ◌||◌, List, [], ◌∷◌, length, Option, Some, None, option_and_then}
+use Rattle.std.specs.Prelude.{ℕ, ◌==◌, nat_le, Bool, true, false, not, cond, ◌&&◌, ◌||◌, List, [], ◌∷◌, Option, Some, None, option_and_then}
+use Rattle.evm_text.specs.Numbers.{is_digit, digits_value}
 
 -- space, TAB, LF, VT, FF, CR
 abbrev pub is_white : ℕ → Bool
 is_white b = (b == 32) || (nat_le 9 b && nat_le b 13)
-
--- 0 to 9
-abbrev pub is_digit : ℕ → Bool
-is_digit b = nat_le 48 b && nat_le b 57
 
 -- LF and CR end a comment
 abbrev pub is_end : ℕ → Bool
@@ -32,11 +29,6 @@ unfoldable pub after_digits : List ℕ → List ℕ
 after_digits [] = []
 after_digits (b ∷ bs) = cond (is_digit b) (after_digits bs) (b ∷ bs)
 
--- the value of decimal digits, the first of which counts most
-unfoldable pub value : List ℕ → ℕ
-value [] = 0
-value (d ∷ ds) = (d - 48) * 10 ^ length ds + value ds
-
 -- the first byte passes the test
 abbrev pub begins : (ℕ → Bool) → List ℕ → Bool
 begins test [] = false
@@ -47,7 +39,7 @@ begins test (b ∷ bs) = test b
 unfoldable pub spaced_number : List ℕ → Option (ℕ × List ℕ)
 spaced_number bs =
     let found = after_blank false bs in
-    cond (begins is_blank bs && begins is_digit found) (Some (value (digits found), after_digits found)) None
+    cond (begins is_blank bs && begins is_digit found) (Some (digits_value (digits found), after_digits found)) None
 
 -- the numbers of a header, and what follows it
 pub record Fields : Type 0 where

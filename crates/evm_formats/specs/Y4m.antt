@@ -7,7 +7,8 @@ use Rattle.evm_formats.specs.declared.voxels.VoxelError.{VoxelError}
 use Rattle.evm_formats.specs.declared.voxels.VoxelError.TheVariants.{Magic, Header, Shape, Range, Short, Kind}
 use Rattle.evm_formats.specs.declared.voxels.Sampling.{Sampling}
 use Rattle.evm_formats.specs.declared.voxels.Sampling.TheVariants.{Quarter, Half, Full, Mono}
-use Rattle.evm_formats.specs.Header.{is_digit, value, begins}
+use Rattle.evm_text.specs.Numbers.{is_digit, digits_value}
+use Rattle.evm_formats.specs.Header.{begins}
 
 -- the bytes before the first `stop` and those after it; none where there is no `stop`
 unfoldable pub cut_at : ℕ → List ℕ → Option (List ℕ × List ℕ)
@@ -25,7 +26,7 @@ values letter line = flat_map (value_of letter) (slice_split (λ b. b == 32) lin
 
 -- the number of a value: one or more digits, and not 0
 abbrev pub number_of : List ℕ → Option ℕ
-number_of ds = cond (nat_le 1 (length ds) && (list_all is_digit ds && nat_le 1 (value ds))) (Some (value ds)) None
+number_of ds = cond (nat_le 1 (length ds) && (list_all is_digit ds && nat_le 1 (digits_value ds))) (Some (digits_value ds)) None
 
 -- the number of a parameter that stands exactly once
 abbrev pub only_number : List (List ℕ) → Option ℕ
