@@ -1,5 +1,5 @@
 -- Whole numbers in a row, and the sums over them that the two ways between cells and vertices come to, on one axis.
-use Rattle.std.proofs.Common.{◌≡◌, ℕ, zero, suc, ◌+◌, ◌*◌, ◌≤◌, Bool, true, false, ◌&&◌, ◌||◌, ℤ, pos, neg_ℤ, ◌+ℤ◌, ◌-ℤ◌, ◌≤ℤ◌, ◌<ℤ◌, int_le, int_lt, refl, sym, ap, ap₂, ◌∙◌, arith, int_eq, nat_le, nat_eq}
+use Rattle.std.proofs.Common.{◌≡◌, ℕ, zero, suc, ◌+◌, ◌*◌, ◌^◌, ◌≤◌, Bool, true, false, ◌&&◌, ◌||◌, ℤ, pos, neg_ℤ, ◌+ℤ◌, ◌-ℤ◌, ◌≤ℤ◌, ◌<ℤ◌, int_le, int_lt, refl, sym, ap, ap₂, ◌∙◌, arith, int_eq, nat_le, nat_eq}
 use Rattle.std.specs.List.{list_any, list_all}
 use Rattle.std.proofs.lemmas.Int.{ints as int_facts, by_lt_z}
 use Rattle.std.proofs.lemmas.Bool.{false≢true}
@@ -225,6 +225,15 @@ limit-falls (suc (suc (suc zero))) = omega arith
 limit-falls (suc (suc (suc (suc zero)))) = omega arith
 limit-falls (suc (suc (suc (suc (suc zero))))) = omega arith
 limit-falls (suc (suc (suc (suc (suc (suc n)))))) = let a = limit-deep (suc (suc (suc (suc (suc (suc n)))))) (omega arith) in let b = limit-deep (suc (suc (suc (suc (suc (suc (suc n))))))) (omega arith) in omega (arith, a, b)
+
+limit-first : limit 0 ≤ 2 ^ 30
+unfolding limit
+limit-first = omega arith
+
+-- every coordinate, and its negative, fits 32 bits
+pub limit-small : (n : ℕ) → limit n ≤ 2 ^ 30
+limit-small zero = limit-first
+limit-small (suc n) = let a = limit-small n in let b = limit-falls n in omega arith
 
 pub cell_coord-falls : (n : ℕ) (x : ℤ) → is_cell_coord (suc n) x ≡ true → is_cell_coord n x ≡ true
 cell_coord-falls n x h = let (a, b) = cell_is (suc n) x h in let l = limit-falls n in cell_yes n x (omega (arith, int_facts)) (omega (arith, int_facts))

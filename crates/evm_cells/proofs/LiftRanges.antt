@@ -94,7 +94,7 @@ fits_within n i lo hi S s a b m = same_tests (lift_fits (suc n) i lo hi S) (list
     (member_passes (list_all (is_cell_coord (suc n))) S c f (has-any S c ∙ h))))))
 
 -- the base with an end put in is made of points exactly where it is within the limit
-raised_points : (n i : ℕ) (lo : ℤ) (V : List (List ℤ)) → IsVertexList n V → is_point_coord (suc n) lo ≡ true → list_all (is_point (suc n)) (map (with_at i lo) V) ≡ list_all (list_all (is_point_coord (suc n))) V
+pub raised_points : (n i : ℕ) (lo : ℤ) (V : List (List ℤ)) → IsVertexList n V → is_point_coord (suc n) lo ≡ true → list_all (is_point (suc n)) (map (with_at i lo) V) ≡ list_all (list_all (is_point_coord (suc n))) V
 raised_points n i lo V v a = all-map (is_point (suc n)) (with_at i lo) V
     ∙ same_tests (list_all (λ q. is_point (suc n) (with_at i lo q)) V) (list_all (list_all (is_point_coord (suc n))) V)
     (all_weaker (λ q. is_point (suc n) (with_at i lo q)) (list_all (is_point_coord (suc n)))

@@ -6,23 +6,18 @@ use Rattle.std.proofs.lemmas.Int.{ints as int_facts}
 use Rattle.std.proofs.lemmas.List.{take_rest, get_or-append-add, set-append_right, length-set}
 use Rattle.std.proofs.lemmas.List.Edits.{swap_is}
 use Rattle.evm_cells.specs.Places.{without, with_at}
-use Rattle.evm_cells.specs.Limits.{is_point, is_point_coord, limit}
+use Rattle.evm_cells.specs.Limits.{is_point, is_point_coord}
 use Rattle.evm_cells.specs.Shapes.{negated, fronted}
-use Rattle.evm_cells.proofs.Coords.{point_is}
+use Rattle.evm_cells.proofs.Coords.{point_is, limit-small}
 use Rattle.evm_cells.proofs.Universe.{point_parts}
 use Rattle.evm_cells.proofs.Slices.{all-coord}
 use Rattle.evm_rows.specs.Rows.{rows_of, flat_of}
-
--- the number of a coordinate's limit is small
-pub limit_small : (n : ℕ) → limit n ≤ 524288
-unfolding limit
-limit_small n = omega arith
 
 pub fits_negated : (n i : ℕ) (row : List ℤ) → is_point n row ≡ true → i < n → FitsSigned w32 (pos 0 -ℤ get_or row i (pos 0))
 fits_negated n i row h l =
     let (e, a) = point_parts n row h in
     let (u, v) = point_is n (get_or row i (pos 0)) (all-coord (is_point_coord n) i row (omega arith) a) in
-    let m = limit_small n in
+    let m = limit-small n in
     grind (arith, int_facts)
 
 negated_parts : (i : ℕ) (row : List ℤ) → i < length row → negated i row ≡ take i row ++ (neg_ℤ (get_or row i (pos 0)) ∷ drop (suc i) row)

@@ -8,7 +8,7 @@ use Rattle.evm_cells.specs.Limits.{is_point, is_point_coord, limit, IsCellSet}
 use Rattle.evm_cells.specs.Vertices.{evm, cells, IsVertexList}
 use Rattle.evm_cells.specs.Shapes.{added, is_shift, shift, shift_fits}
 use Rattle.evm_cells.proofs.Xor.{and_first, and_second, and_both, and-false}
-use Rattle.evm_cells.proofs.Coords.{le_is, le_yes, le_no, point_is, point_yes}
+use Rattle.evm_cells.proofs.Coords.{le_is, le_yes, le_no, point_is, point_yes, limit-small}
 use Rattle.evm_cells.proofs.Universe.{point_parts, point_from}
 use Rattle.evm_cells.proofs.Slices.{all-coord}
 use Rattle.evm_cells.proofs.Moves.{length-added}
@@ -17,16 +17,12 @@ use Rattle.evm_rows.proofs.RowsOrder.{Wide, rows_of-flat_of, length-flat_of}
 use Rattle.evm_rows.proofs.Bridge.{wide-points}
 use native.Mathlib.Nat.{mul-mod_left}
 
-pub limit_is : (n : ℕ) → limit n ≡ 524288
-unfolding limit
-limit_is n = refl
-
 -- the numbers of a shift
 pub shift_parts : (n : ℕ) (d : List ℤ) → is_shift n d ≡ true → length d ≡ n
 unfolding is_shift
 shift_parts n d h = eqb-true (length d) n (and_first (length d == n) (list_all (λ a. int_le (neg_ℤ (pos (2 * limit n))) a && int_le a (pos (2 * limit n))) d) h)
 
-pub shift_near : (n : ℕ) (d : List ℤ) (k : ℕ) → is_shift n d ≡ true → k < n → (neg_ℤ (pos 1048576) ≤ℤ get_or d k (pos 0)) × (get_or d k (pos 0) ≤ℤ pos 1048576)
+pub shift_near : (n : ℕ) (d : List ℤ) (k : ℕ) → is_shift n d ≡ true → k < n → (neg_ℤ (pos (2 * limit n)) ≤ℤ get_or d k (pos 0)) × (get_or d k (pos 0) ≤ℤ pos (2 * limit n))
 unfolding is_shift
 shift_near n d k h l =
     let p : ℤ → Bool = λ a. int_le (neg_ℤ (pos (2 * limit n))) a && int_le a (pos (2 * limit n)) in
@@ -35,8 +31,7 @@ shift_near n d k h l =
     let x : ℤ = get_or d k (pos 0) in
     let b : neg_ℤ (pos (2 * limit n)) ≤ℤ x = le_is (neg_ℤ (pos (2 * limit n))) x (and_first (int_le (neg_ℤ (pos (2 * limit n))) x) (int_le x (pos (2 * limit n))) a) in
     let c : x ≤ℤ pos (2 * limit n) = le_is x (pos (2 * limit n)) (and_second (int_le (neg_ℤ (pos (2 * limit n))) x) (int_le x (pos (2 * limit n))) a) in
-    let m = limit_is n in
-    (omega (arith, int_facts), omega (arith, int_facts))
+    (b, c)
 
 -- the moved row from the axis k on
 pub added-more : (d c : List ℤ) (k : ℕ) → k < length d → k < length c → added (drop k d) (drop k c) ≡ (get_or c k (pos 0) +ℤ get_or d k (pos 0)) ∷ added (drop (k + 1) d) (drop (k + 1) c)
@@ -103,6 +98,10 @@ added_rows n d V flat some l v f =
 pub same64 : (z : ℤ) → SFits w64 z → to_z w64 (of_z w64 z) ≡ z
 same64 z fits = to_z-of_z w64 z fits
 
+-- the sum of a coordinate of 32 bits and a number of a shift
+pub sum_fits : (n : ℕ) (x y : ℤ) → SFits w32 x → neg_ℤ (pos (2 * limit n)) ≤ℤ y → y ≤ℤ pos (2 * limit n) → SFits w64 (x +ℤ y)
+sum_fits n x y f a b = let m = limit-small n in grind (arith, int_facts)
+
 -- the test of one coordinate
 pub within_low : (n : ℕ) (x l : ℤ) → l ≡ pos (limit n) → int_le (pos 0 -ℤ l) x ≡ true → int_le x l ≡ is_point_coord n x
 unfolding is_point_coord
@@ -117,7 +116,7 @@ within_no n x l e h =
     sym (ap (λ (b : Bool). b && int_le x (pos (limit n))) (ap (λ (z : ℤ). int_le z x) (sym f) ∙ h))
 
 pub limit_fits : (n : ℕ) (l : ℤ) → l ≡ pos (limit n) → SFits w64 l × SFits w64 (pos 0 -ℤ l)
-limit_fits n l e = let m = limit_is n in (grind (arith, int_facts), grind (arith, int_facts))
+limit_fits n l e = let m = limit-small n in (grind (arith, int_facts), grind (arith, int_facts))
 
 -- ---- the steps of the loops
 
@@ -146,7 +145,7 @@ coord_fits n d c k l m h =
     (and_first (is_point_coord n x) (list_all (is_point_coord n) (added (drop (k + 1) d) (drop (k + 1) c))) e, and_second (is_point_coord n x) (list_all (is_point_coord n) (added (drop (k + 1) d) (drop (k + 1) c))) e)
 
 pub coord_32 : (n : ℕ) (x : ℤ) → is_point_coord n x ≡ true → SFits w32 x
-coord_32 n x h = let (a, b) = point_is n x h in let m = limit_is n in grind (arith, int_facts)
+coord_32 n x h = let (a, b) = point_is n x h in let m = limit-small n in grind (arith, int_facts)
 
 pub written_more : (d c : List ℤ) (k : ℕ) (out new all : List ℤ) → k < length d → k < length c → new ≡ out ++ (get_or c k (pos 0) +ℤ get_or d k (pos 0)) ∷ [] → out ++ added (drop k d) (drop k c) ≡ all → new ++ added (drop (k + 1) d) (drop (k + 1) c) ≡ all
 written_more d c k out new all l m n h =

@@ -9,7 +9,7 @@ use Rattle.evm_cells.specs.Limits.{is_point, is_point_coord, limit, IsCellSet}
 use Rattle.evm_cells.specs.Booleans.{xor}
 use Rattle.evm_cells.specs.Vertices.{odd, evm, cells, IsVertexList}
 use Rattle.evm_cells.specs.Sections.{slice}
-use Rattle.evm_cells.specs.Shapes.{lift}
+use Rattle.evm_cells.specs.Shapes.{lift_fits, lift}
 use Rattle.evm_cells.proofs.Xor.{xsum, xsum-same, xsum-same_on, odd-count, xor-and, or-xor, and_first, and_second}
 use Rattle.evm_cells.proofs.Order.{refuted}
 use Rattle.evm_cells.proofs.Sum.{xsum-map, xsum-filter, xsum-append, xsum-and_left}
@@ -18,6 +18,7 @@ use Rattle.evm_cells.proofs.Universe.{point_parts, same_sym, xsum-same_place, ce
 use Rattle.evm_cells.proofs.Core.{evm-cells, length-without}
 use Rattle.evm_cells.proofs.Slices.{coord, each-with_at, cell_set-slice}
 use Rattle.evm_cells.proofs.Moves.{by_place}
+use Rattle.evm_cells.proofs.LiftRanges.{lift_in_range, raised_points}
 use Rattle.evm_cells.proofs.Lifts.{has-evm-slice, has-evm-lift, cell_set-lift}
 use Rattle.evm_rows.specs.Rows.{rows_of, flat_of}
 use Rattle.evm_rows.proofs.RowsOrder.{Wide, rows_of-flat_of, length-flat_of}
@@ -132,8 +133,8 @@ apart : (lo hi x : ℤ) → lo <ℤ hi → (int_eq lo x && int_eq hi x) ≡ fals
 apart lo hi x l = refuted (int_eq lo x && int_eq hi x)
     (λ h. let e : lo ≡ x = eq_is lo x (and_first (int_eq lo x) (int_eq hi x) h) in let f : hi ≡ x = eq_is hi x (and_second (int_eq lo x) (int_eq hi x) h) in omega (arith, int_facts))
 
-lift_are : (n i : ℕ) (lo hi : ℤ) (V W : List (List ℤ)) → i ≤ n → lo <ℤ hi → neg_ℤ (pos (limit (suc n))) ≤ℤ lo → hi ≤ℤ pos (limit (suc n)) → IsVertexList n V → IsReduced (suc n) (ends i lo hi V) W → W ≡ evm (suc n) (lift (suc n) i lo hi (cells n V))
-lift_are n i lo hi V W l m b t v r =
+lift_are : (n i : ℕ) (lo hi : ℤ) (V W : List (List ℤ)) → i ≤ n → lo <ℤ hi → lift_fits (suc n) i lo hi (cells n V) ≡ true → IsVertexList n V → IsReduced (suc n) (ends i lo hi V) W → W ≡ evm (suc n) (lift (suc n) i lo hi (cells n V))
+lift_are n i lo hi V W l m f v r =
     by_place (suc n) (lift (suc n) i lo hi (cells n V)) W (cell_set-lift (suc n) i lo hi (cells n V)) r.ascends r.wide
     (λ p e. r.odd_times p
     ∙ odd-count (λ (q : List ℤ). same q p) (ends i lo hi V)
@@ -141,9 +142,23 @@ lift_are n i lo hi V W l m b t v r =
     ∙ ap₂ xor (at_end n i lo V p l v e) (at_end n i hi V p l v e)
     ∙ sym (xor-and (int_eq lo (coord i p)) (int_eq hi (coord i p)) (has V (without i p)))
     ∙ ap₂ (λ s U. s && has U (without i p)) (sym (or-xor (int_eq lo (coord i p)) (int_eq hi (coord i p)) (apart lo hi (coord i p) m))) (sym (evm-cells n V v))
-    ∙ sym (has-evm-lift n i lo hi (cells n V) p (omega arith) (cell_set-cells n V) e (point_yes (suc n) lo b (omega (arith, int_facts))) (point_yes (suc n) hi (omega (arith, int_facts)) t) (lt_yes lo hi m)))
+    ∙ sym (has-evm-lift n i lo hi (cells n V) p (omega arith) (cell_set-cells n V) e (lt_yes lo hi m) f))
 
-pub lift_are_at : (n i : ℕ) (lo hi : ℤ) (V W : List (List ℤ)) → i ≤ n → lo <ℤ hi → neg_ℤ (pos (limit (n + 1))) ≤ℤ lo → hi ≤ℤ pos (limit (n + 1)) → IsVertexList n V → IsReduced (n + 1) (ends i lo hi V) W → W ≡ evm (n + 1) (lift (n + 1) i lo hi (cells n V))
-lift_are_at n i lo hi V W l m b t v r =
+pub lift_are_at : (n i : ℕ) (lo hi : ℤ) (V W : List (List ℤ)) → i ≤ n → lo <ℤ hi → lift_fits (n + 1) i lo hi (cells n V) ≡ true → IsVertexList n V → IsReduced (n + 1) (ends i lo hi V) W → W ≡ evm (n + 1) (lift (n + 1) i lo hi (cells n V))
+lift_are_at n i lo hi V W l m f v r =
     let q : n + 1 ≡ suc n = omega arith in
-    lift_are n i lo hi V W l m (rw q at b) (rw q at t) v (rw q at r) ∙ ap (λ (j : ℕ). evm j (lift j i lo hi (cells n V))) (sym q)
+    lift_are n i lo hi V W l m (rw q at f) v (rw q at r) ∙ ap (λ (j : ℕ). evm j (lift j i lo hi (cells n V))) (sym q)
+
+-- a prism fits exactly where its base is within the limit of its dimension
+pub lift_by_rows : (n i : ℕ) (lo hi : ℤ) (V : List (List ℤ)) → i ≤ n → neg_ℤ (pos (limit (n + 1))) ≤ℤ lo → lo <ℤ hi → hi ≤ℤ pos (limit (n + 1)) → IsVertexList n V
+    → lift_fits (n + 1) i lo hi (cells n V) ≡ list_all (list_all (is_point_coord (n + 1))) V
+lift_by_rows n i lo hi V l b m t v =
+    let q : n + 1 ≡ suc n = omega arith in
+    let d : neg_ℤ (pos (limit (suc n))) ≤ℤ lo = rw q at b in
+    let u : hi ≤ℤ pos (limit (suc n)) = rw q at t in
+    let low : is_point_coord (suc n) lo ≡ true = point_yes (suc n) lo d (omega (arith, int_facts)) in
+    let high : is_point_coord (suc n) hi ≡ true = point_yes (suc n) hi (omega (arith, int_facts)) u in
+    ap (λ (j : ℕ). lift_fits j i lo hi (cells n V)) q
+    ∙ lift_in_range n i lo hi V (omega arith) v low high (lt_yes lo hi m)
+    ∙ raised_points n i lo V v low
+    ∙ ap (λ (j : ℕ). list_all (list_all (is_point_coord j)) V) (sym q)

@@ -1,5 +1,5 @@
 // Shifts.
-ghost use Rattle.std.specs.Prelude.{◌≡◌, ◌↔◌, ◌++◌, ◌<◌, ◌≤◌, ◌≤ℤ◌, ◌+ℤ◌, neg_ℤ, true, false, length, map, pos, IfOk, OnOk, IsErrOf};
+ghost use Rattle.std.specs.Prelude.{◌≡◌, ◌↔◌, ◌++◌, ◌*◌, ◌<◌, ◌≤◌, ◌≤ℤ◌, ◌+ℤ◌, neg_ℤ, true, false, length, map, pos, IfOk, OnOk, IsErrOf};
 ghost use Rattle.std.specs.List.{list_all};
 ghost use Rattle.evm_cells.specs.Limits.{limit, is_point, is_point_coord};
 ghost use Rattle.evm_cells.specs.Shapes.{added, is_shift, shift, shift_fits};
@@ -46,8 +46,8 @@ fn limit_of(dim: usize) -> i64
     i64::from(limit(dim))
 }
 
-// Whether the number is a vertex coordinate of dimension `dim`.
-fn is_within(x: i64, dim: usize) -> bool
+/// Whether the number is a vertex coordinate of dimension `dim`.
+pub(crate) fn is_within(x: i64, dim: usize) -> bool
     requires low { 0 < dim }
     requires high { dim ≤ 6 }
     ensures { result ≡ is_point_coord dim x }
@@ -57,9 +57,9 @@ fn is_within(x: i64, dim: usize) -> bool
 }
 
 // The moved coordinate.
-fn sum(x: i32, by: i64) -> i64
-    requires low { neg_ℤ (pos 1048576) ≤ℤ by }
-    requires high { by ≤ℤ pos 1048576 }
+fn sum(x: i32, by: i64, _dim: usize) -> i64
+    requires low { neg_ℤ (pos (2 * limit _dim)) ≤ℤ by }
+    requires high { by ≤ℤ pos (2 * limit _dim) }
     ensures { result ≡ x +ℤ by }
 {
     i64::from(x) + by
@@ -72,7 +72,7 @@ fn row_fits(row: &[i32], by: &[i64]) -> bool
     ensures { result ≡ is_point (length row.now) (added by.now row.now) }
 {
     for k in 0..row.len() {
-        if !is_within(sum(row[k], by[k]), row.len()) {
+        if !is_within(sum(row[k], by[k], row.len()), row.len()) {
             return false;
         }
     }
@@ -102,7 +102,7 @@ fn append_added(out: &mut Vec<i32>, row: &[i32], by: &[i64]) -> Result<(), Alloc
     ensures { OnOk result (out.new.items ≡ out.old.items ++ added by.now row.now) }
 {
     for k in 0..row.len() {
-        out.push(sum(row[k], by[k]) as i32)?;
+        out.push(sum(row[k], by[k], row.len()) as i32)?;
     }
     Ok(())
 }

@@ -42,7 +42,9 @@ fn clipped(alloc: Global) -> Result<bool, NoMemory> {
 #[tactic(auto, unfolding(evm_cells::specs::Limits::limit, evm_cells::specs::Limits::is_point, evm_cells::specs::Limits::is_point_coord, evm_cells::specs::Limits::is_cell_coord, evm_cells::specs::Places::each, evm_cells::specs::Shapes::is_shift))]
 fn raised(alloc: Global) -> Result<(bool, bool, bool), NoMemory> {
     let a = two_cells(alloc)?;
-    let prism = lift(alloc, a.rows(), 3, 4, 6)?;
+    let Ok(prism) = lift(alloc, a.rows(), 3, 4, 6) else {
+        return Err(NoMemory);
+    };
     let middle = slice(alloc, prism.rows(), 3, 5)?;
     let shadow = project(alloc, prism.rows(), 3)?;
     Ok((
@@ -80,15 +82,43 @@ fn stacked(alloc: Global) -> Result<(bool, bool), NoMemory> {
 #[tactic(auto, unfolding(evm_cells::specs::Limits::limit, evm_cells::specs::Limits::is_point, evm_cells::specs::Limits::is_point_coord, evm_cells::specs::Limits::is_cell_coord, evm_cells::specs::Places::each, evm_cells::specs::Shapes::is_shift))]
 fn moved(alloc: Global) -> Result<(bool, bool), NoMemory> {
     let a = two_cells(alloc)?;
-    let far = shift(alloc, a.rows(), &[524_286, 0]);
-    let past = shift(alloc, a.rows(), &[524_287, 0]);
+    let far = shift(alloc, a.rows(), &[1_073_741_822, 0]);
+    let past = shift(alloc, a.rows(), &[1_073_741_823, 0]);
     match far {
         Ok(solid) => Ok((
-            has_rows(&solid, 2, &[524_286, 0, 524_286, 1, 524_288, 0, 524_288, 1]),
+            has_rows(
+                &solid,
+                2,
+                &[
+                    1_073_741_822,
+                    0,
+                    1_073_741_822,
+                    1,
+                    1_073_741_824,
+                    0,
+                    1_073_741_824,
+                    1,
+                ],
+            ),
             past.is_err_and(|e| e == ShapeError::Range),
         )),
         Err(_) => Err(NoMemory),
     }
+}
+
+// The limit of dimension 4 under a base of dimension 3: at it, and past it.
+#[tactic(auto, unfolding(evm_cells::specs::Limits::limit))]
+fn heightened(alloc: Global) -> Result<(bool, bool), NoMemory> {
+    let (Ok(at), Ok(past)) = (
+        Solid::of_box(alloc, &[268_435_455, 0, 0], &[268_435_456, 1, 1]),
+        Solid::of_box(alloc, &[268_435_456, 0, 0], &[268_435_457, 1, 1]),
+    ) else {
+        return Err(NoMemory);
+    };
+    Ok((
+        lift(alloc, at.rows(), 4, 0, 1).is_ok(),
+        lift(alloc, past.rows(), 4, 0, 1).is_err_and(|e| e == ShapeError::Range),
+    ))
 }
 
 #[test]
@@ -98,4 +128,5 @@ fn shapes(rt: HostRuntime) {
     assert_eq!(rt; raised(rt.alloc()), Ok((true, true, true)));
     assert_eq!(rt; stacked(rt.alloc()), Ok((true, true)));
     assert_eq!(rt; moved(rt.alloc()), Ok((true, true)));
+    assert_eq!(rt; heightened(rt.alloc()), Ok((true, true)));
 }
