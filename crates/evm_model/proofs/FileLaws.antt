@@ -1,5 +1,5 @@
 -- Files: the figures that bytes state, and the bytes that figures are saved in.
-use Rattle.std.proofs.Common.{◌≡◌, ℕ, ◌≤◌, Bool, true, false, cond, List, [], ◌∷◌, Option, Some, None, Result, Ok, Err, ℤ, pos, int_le, ◌⊎◌, inl, inr, ⊎_elim, refl, sym, ap, ◌∙◌, subst, bytes_eq, arith, nat_le, nat_abs}
+use Rattle.std.proofs.Common.{◌≡◌, ℕ, ◌≤◌, Bool, true, false, cond, List, [], ◌∷◌, Option, Some, None, Result, Ok, Err, ℤ, pos, int_le, ◌⊎◌, inl, inr, ⊎_elim, refl, sym, ap, ◌∙◌, subst, bytes_eq, arith, nat_le, nat_abs, IfOk}
 use Rattle.std.specs.Prelude.{◌↔◌, ◌==◌}
 use Rattle.std.proofs.lemmas.Bool.{eqb-false}
 use Rattle.std.proofs.lemmas.Bool.Decides.{Decides-eqb, nat_tests}
@@ -7,7 +7,8 @@ use Rattle.std.proofs.lemmas.Int.{ints as int_facts}
 use Rattle.evm_cells.specs.Places.{ascending}
 use Rattle.evm_cells.specs.Limits.{IsCellSet}
 use Rattle.evm_cells.specs.Vertices.{cells}
-use Rattle.evm_cells.proofs.Combine.{cell_set-filter}
+use Rattle.evm_cells.specs.Unions.{Ends}
+use Rattle.evm_cells.proofs.Unions.{cell_set-union}
 use Rattle.evm_cells.proofs.Coords.{le_is}
 use Rattle.evm_cells.proofs.Core.{cells-evm}
 use Rattle.evm_cells.proofs.Universe.{cell_set-cells}
@@ -15,15 +16,12 @@ use Rattle.evm_cells.proofs.Xor.{and_first, and_second}
 use Rattle.evm_formats.specs.File.{file_of_cells, stated_rows, IsSolidCells}
 use Rattle.evm_formats.proofs.Frames.{rows_of_file}
 use Rattle.evm_formats.proofs.FileLaws.{vertices_of_cells, solid_of_cells, cell_sets}
-use Rattle.evm_boxes.specs.Unions.{Ends}
-use Rattle.evm_boxes.specs.BoxFile.{file_cells, union_or_refusal, boxes_of_file}
-use Rattle.evm_boxes.specs.Words.{lines}
-use Rattle.evm_boxes.specs.declared.BoxFileError.{BoxFileError}
-use Rattle.evm_boxes.proofs.UnionMembers.{cell_set-union}
-use Rattle.evm_voxels.specs.Samples.{Picture, image_cells, stack_cells, within, of_two, of_three, at_least, cells_of_images}
-use Rattle.evm_voxels.specs.Pgm.{Shot, map_ok, pictures, images_of, cells_of_shots, pgm_cells}
-use Rattle.evm_voxels.specs.Y4m.{Stream, stream, frames_of, cells_of_frames, with_stream, y4m_cells}
-use Rattle.evm_voxels.specs.declared.error.VoxelError.{VoxelError}
+use Rattle.evm_formats.specs.BoxFile.{file_cells, union_or_refusal, boxes_of_file}
+use Rattle.evm_formats.specs.declared.boxes.BoxFileError.{BoxFileError}
+use Rattle.evm_formats.specs.Pgm.{pgm_cells}
+use Rattle.evm_formats.specs.Y4m.{y4m_cells}
+use Rattle.evm_formats.proofs.ImageSets.{cell_set-pgm, cell_set-y4m}
+use Rattle.evm_text.specs.Lines.{lines}
 use Rattle.evm_script.specs.declared.files.LoadForm.{LoadForm}
 use Rattle.evm_script.specs.declared.files.LoadForm.TheVariants as forms
 use Rattle.evm_script.specs.declared.files.SaveForm.TheVariants as saves
@@ -43,13 +41,9 @@ abbrev pub IfCells : ℕ → Option Figure → Type 0
 IfCells n None = Unit {0}
 IfCells n (Some a) = HasCells n a
 
-no_cells : (n : ℕ) → IsCellSet n []
-unfolding ascending
-no_cells n = record { ascends = refl; cells = refl }
-
 nothing_set : (n : ℕ) → HasCells n (nothing n)
-unfolding nothing
-nothing_set n = (refl, no_cells n)
+unfolding nothing ascending
+nothing_set n = (refl, record { ascends = refl; cells = refl })
 
 -- dimensions that solids have are 1 to 6
 pub solid_dim : (n : ℕ) → is_dim (pos n) ≡ true → (2 ≤ n) × (n ≤ 6)
@@ -67,47 +61,20 @@ image_dim n d h =
     let few : n ≤ 3 = grind (arith, nat_tests, h) in
     by_test (n == 2) (λ e. inl ((Decides-eqb n 2).0 e)) (λ e. inr (omega (arith, low, few, eqb-false n 2 e)))
 
-images_set : (n threshold w h : ℕ) (images : List Picture) → (n ≡ 2) ⊎ (n ≡ 3) → IsCellSet n (cells_of_images n threshold w h images)
-unfolding image_cells stack_cells
-images_set n threshold w h images d =
-    ⊎_elim
-    (λ (e : n ≡ 2). subst (λ (m : ℕ). IsCellSet m (cells_of_images m threshold w h images)) (sym e) (cell_set-filter 2 (within (w ∷ h ∷ []) (of_two (at_least threshold w images)))))
-    (λ (e : n ≡ 3). subst (λ (m : ℕ). IsCellSet m (cells_of_images m threshold w h images)) (sym e) (cell_set-filter 3 (within (w ∷ h ∷ _ ∷ []) (of_three (at_least threshold w images))))) d
-
-shots_set : (n threshold : ℕ) (ss : List Shot) → (n ≡ 2) ⊎ (n ≡ 3) → IsCellSet n (cells_of_shots n threshold ss)
-unfolding cells_of_shots
-shots_set n threshold [] d = no_cells n
-shots_set n threshold (s ∷ ss) d = images_set n threshold s.width s.height (pictures (s ∷ ss)) d
-
-frames_set : (n threshold w h : ℕ) (ps : List Picture) → (n ≡ 2) ⊎ (n ≡ 3) → IsCellSet n (cells_of_frames n threshold w h ps)
-frames_set n threshold w h [] d = no_cells n
-frames_set n threshold w h (p ∷ ps) d = images_set n threshold w h (p ∷ ps) d
-
-mapped : {A E : Type 0} (n : ℕ) (f : A → List (List ℤ)) (r : Result A E) → ((a : A) → IsCellSet n (f a)) → IfCells n (figure_stated n (map_ok f r))
-mapped n f (Ok a) h = (refl, h a)
-mapped n f (Err e) h = tt
-
-streamed : (n threshold : ℕ) (r : Result Stream VoxelError) → (n ≡ 2) ⊎ (n ≡ 3) → IfCells n (figure_stated n (with_stream n threshold r))
-streamed n threshold (Err e) d = tt
-streamed n threshold (Ok s) d = mapped n (cells_of_frames n threshold s.width s.height) (frames_of n s) (λ ps. frames_set n threshold s.width s.height ps d)
-
-pgm_set : (n threshold : ℕ) (bytes : List ℕ) → (n ≡ 2) ⊎ (n ≡ 3) → IfCells n (figure_stated n (pgm_cells n threshold bytes))
-unfolding pgm_cells
-pgm_set n threshold bytes d = mapped n (cells_of_shots n threshold) (images_of n bytes) (λ ss. shots_set n threshold ss d)
-
-y4m_set : (n threshold : ℕ) (bytes : List ℕ) → (n ≡ 2) ⊎ (n ≡ 3) → IfCells n (figure_stated n (y4m_cells n threshold bytes))
-unfolding y4m_cells
-y4m_set n threshold bytes d = streamed n threshold (stream n bytes) d
+-- the figure of cells that a file states
+stated_set : {E : Type 0} (n : ℕ) (r : Result (List (List ℤ)) E) → IfOk r (λ S. IsCellSet n S) → IfCells n (figure_stated n r)
+stated_set n (Ok S) h = (refl, h)
+stated_set n (Err e) h = tt
 
 -- ---- boxes and EVM files
 
-united : (n : ℕ) (r : Result (List Ends) BoxFileError) → IfCells n (figure_stated n (union_or_refusal n r))
-united n (Ok boxes) = (refl, cell_set-union n boxes)
-united n (Err e) = tt
-
-boxes_set : (n : ℕ) (bytes : List ℕ) → IfCells n (figure_stated n (file_cells n bytes))
+boxes_set : (n : ℕ) (bytes : List ℕ) → IfOk (file_cells n bytes) (λ S. IsCellSet n S)
 unfolding file_cells
-boxes_set n bytes = united n (boxes_of_file n (lines bytes))
+boxes_set n bytes = united (boxes_of_file n (lines bytes))
+  where
+    united : (r : Result (List Ends) BoxFileError) → IfOk (union_or_refusal n r) (λ S. IsCellSet n S)
+    united (Ok boxes) = cell_set-union n boxes
+    united (Err e) = tt
 
 -- the figure of the rows that bytes state
 abbrev pub row_figure : ℕ → List ℕ → Figure
@@ -126,9 +93,9 @@ evm_set n bytes =
 pub figure_set : (form : LoadForm) (n : ℕ) (bytes : List ℕ) → is_dim (pos n) ≡ true → form_fits form n ≡ true → IfCells n (figure_in form n bytes)
 unfolding figure_in
 figure_set forms.Evm n bytes d h = evm_set n bytes
-figure_set forms.Boxes n bytes d h = boxes_set n bytes
-figure_set (forms.Pgm threshold) n bytes d h = pgm_set n (nat_abs threshold) bytes (image_dim n d h)
-figure_set (forms.Y4m threshold) n bytes d h = y4m_set n (nat_abs threshold) bytes (image_dim n d h)
+figure_set forms.Boxes n bytes d h = stated_set n (file_cells n bytes) (boxes_set n bytes)
+figure_set (forms.Pgm threshold) n bytes d h = stated_set n (pgm_cells n (nat_abs threshold) bytes) (cell_set-pgm n (nat_abs threshold) bytes (image_dim n d h))
+figure_set (forms.Y4m threshold) n bytes d h = stated_set n (y4m_cells n (nat_abs threshold) bytes) (cell_set-y4m n (nat_abs threshold) bytes (image_dim n d h))
 
 pub figures_are : (form : LoadForm) (n : ℕ) (bytes : List ℕ) (a : Figure) → is_dim (pos n) ≡ true → form_fits form n ≡ true → figure_in form n bytes ≡ Some a → HasCells n a
 figures_are form n bytes a d h e = subst (λ (o : Option Figure). IfCells n o) e (figure_set form n bytes d h)

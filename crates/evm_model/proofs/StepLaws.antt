@@ -1,5 +1,5 @@
 -- What a line leaves in a scene, and which files it reads and places.
-use Rattle.std.proofs.Common.{◌≡◌, Bool, true, false, not, List, [], ◌++◌, Option, Some, None, Result, Ok, Err, refl, sym, ap, ◌∙◌}
+use Rattle.std.proofs.Common.{◌≡◌, Bool, true, false, not, ◌&&◌, ◌||◌, List, [], ◌++◌, Option, Some, None, Result, Ok, Err, refl, sym, ap, ◌∙◌}
 use Rattle.std.specs.Prelude.{ℕ, is_none}
 use Rattle.std.specs.List.{list_all}
 use Rattle.std.proofs.lemmas.Bool.{false≢true}
@@ -16,10 +16,10 @@ use Rattle.evm_model.specs.Scene.{Scene, start, value, dim_of, IsWell}
 use Rattle.evm_model.specs.Edits as codes
 use Rattle.evm_model.specs.Edits.{Edit, Input, Toggle, Add, Cut, Replace, Def, Drop, EditFits, Code, Missing, Shelf, Memory, first_cause, name_causes, place_causes, section_causes, axis_causes, edit_causes, refusal, after, changed}
 use Rattle.evm_model.specs.Replies.{Reply, Empty, No, Changed, Listed, is_no}
-use Rattle.evm_model.specs.Laws.{is_edit, is_save}
-use Rattle.evm_model.specs.Steps.{Turn, stays, unless_refused, edited, load_causes, loaded, file_causes, load_turn, saved, turn_of, line_turn, step, command_fetches, of_line, fetches}
+use Rattle.evm_model.specs.Laws.{is_edit, is_edit_way, is_save, is_save_way}
+use Rattle.evm_model.specs.Steps.{Way, Edits, Asks, Loads, Saves, way_of, way_turn, way_fetches, way_asks, edit_reply, save_causes, command_asks, asks, Turn, stays, unless_refused, edited, load_causes, loaded, file_causes, load_turn, saved, turn_of, line_turn, step, command_fetches, of_line, fetches}
 use Rattle.evm_model.proofs.EditLaws.{well_edit}
-use Rattle.evm_model.proofs.Names.{not_true, among_none}
+use Rattle.evm_model.proofs.Names.{not_true, among_none, or-false}
 use Rattle.evm_model.proofs.LoadLaws.{first_passes, first_front, some_cause, well_load}
 
 -- the codes that come by a mark alone
@@ -72,14 +72,37 @@ mild_unless test scene turn causes m n = by_cause (first_cause causes) refl
     by_cause None e = mild_reply test scene turn n
     by_cause (Some code) e = (λ h. (refl, refl), not_true (test code) (first_passes (λ c. not (test c)) causes code m e))
 
+-- an edit of a command states no figure of its own; a question refuses by no outer code, and its answer does not refuse
+abbrev IsPlain : Way → Type 0
+IsPlain (Edits edit) = EditFits edit
+IsPlain (Asks causes answer) =
+    (scene : Scene) → (list_all (λ (c : Bool × Code). not (is_outer c.1)) (causes scene) ≡ true) × (is_no (answer scene) ≡ false)
+IsPlain _ = Unit {0}
+
+plain_way : (c : Command) → IsPlain (way_of c)
+plain_way (commands.Input name dim) = tt
+plain_way (commands.Toggle name nums) = tt
+plain_way (commands.Add name nums) = tt
+plain_way (commands.Cut name nums) = tt
+plain_way (commands.Def name formula) = tt
+plain_way (commands.Drop name) = tt
+plain_way (commands.Load name form file) = tt
+plain_way (commands.Save name form file) = tt
+plain_way _ = λ scene. (refl, refl)
+
+plain_edit : (scene : Scene) (edit : Edit)
+    → (list_all (λ (c : Bool × Code). not (is_outer c.1)) (edit_causes scene edit) ≡ true) × (is_no (edit_reply scene edit) ≡ false)
+plain_edit scene (Input name dim) = (refl, refl)
+plain_edit scene _ = (refl, refl)
+
 -- a command refuses by no mark, and by no file where it fetches none
-abbrev pub IsQuiet : Fetches → Scene → Command → Type 0
-IsQuiet fetched scene c = IsMild by_mark scene (turn_of fetched scene c) × (command_fetches scene c ≡ false → IsMild is_outer scene (turn_of fetched scene c))
+abbrev IsQuiet : Fetches → Scene → Way → Type 0
+IsQuiet fetched scene way = IsMild by_mark scene (way_turn fetched scene way) × (way_fetches scene way ≡ false → IsMild is_outer scene (way_turn fetched scene way))
 
-quiet : (fetched : Fetches) (scene : Scene) (c : Command) → IsMild is_outer scene (turn_of fetched scene c) → IsQuiet fetched scene c
-quiet fetched scene c m = (outer_mild scene (turn_of fetched scene c) m, λ h. m)
+quiet : (fetched : Fetches) (scene : Scene) (way : Way) → IsMild is_outer scene (way_turn fetched scene way) → IsQuiet fetched scene way
+quiet fetched scene way m = (outer_mild scene (way_turn fetched scene way) m, λ h. m)
 
-quiet_load : (fetched : Fetches) (scene : Scene) (name file : List ℕ) (form : LoadForm) → IsQuiet fetched scene (commands.Load name form file)
+quiet_load : (fetched : Fetches) (scene : Scene) (name file : List ℕ) (form : LoadForm) → IsQuiet fetched scene (Loads name form file)
 quiet_load fetched scene name file form = (
   mild_unless by_mark scene _ (load_causes scene name form ++ file_causes fetched scene name form file) refl refl,
   λ h. refused (first_cause (load_causes scene name form)) refl h,
@@ -89,28 +112,16 @@ quiet_load fetched scene name file form = (
     refused None e h = absurd (false≢true (sym h))
     refused (Some code) e h = rw (first_front (load_causes scene name form) (file_causes fetched scene name form file) code e) ((λ k. (refl, refl), not_true (is_outer code) (first_passes (λ c. not (is_outer c)) (load_causes scene name form) code refl e)))
 
-quiet_turn : (fetched : Fetches) (scene : Scene) (c : Command) → IsQuiet fetched scene c
-quiet_turn fetched scene commands.Blank = quiet fetched scene commands.Blank (mild_reply is_outer scene (stays scene Empty) refl)
-quiet_turn fetched scene (commands.Input name dim) = quiet fetched scene (commands.Input name dim) (mild_unless is_outer scene _ (edit_causes scene (Input name dim)) refl refl)
-quiet_turn fetched scene (commands.Toggle name nums) = quiet fetched scene (commands.Toggle name nums) (mild_unless is_outer scene _ (edit_causes scene (Toggle name nums)) refl refl)
-quiet_turn fetched scene (commands.Add name nums) = quiet fetched scene (commands.Add name nums) (mild_unless is_outer scene _ (edit_causes scene (Add name nums)) refl refl)
-quiet_turn fetched scene (commands.Cut name nums) = quiet fetched scene (commands.Cut name nums) (mild_unless is_outer scene _ (edit_causes scene (Cut name nums)) refl refl)
-quiet_turn fetched scene (commands.Load name form file) = quiet_load fetched scene name file form
-quiet_turn fetched scene (commands.Def name formula) = quiet fetched scene (commands.Def name formula) (mild_unless is_outer scene _ (edit_causes scene (Def name formula)) refl refl)
-quiet_turn fetched scene (commands.Drop name) = quiet fetched scene (commands.Drop name) (mild_unless is_outer scene _ (edit_causes scene (Drop name)) refl refl)
-quiet_turn fetched scene (commands.Show name) = quiet fetched scene (commands.Show name) (mild_unless is_outer scene _ (name_causes scene name) refl refl)
-quiet_turn fetched scene (commands.Section name axis at) = quiet fetched scene (commands.Section name axis at) (mild_unless is_outer scene _ (section_causes scene name axis at) refl refl)
-quiet_turn fetched scene (commands.Project name axis) = quiet fetched scene (commands.Project name axis) (mild_unless is_outer scene _ (axis_causes scene name axis) refl refl)
-quiet_turn fetched scene (commands.Content name) = quiet fetched scene (commands.Content name) (mild_unless is_outer scene _ (name_causes scene name) refl refl)
-quiet_turn fetched scene (commands.Boundary name) = quiet fetched scene (commands.Boundary name) (mild_unless is_outer scene _ (name_causes scene name) refl refl)
-quiet_turn fetched scene (commands.At name nums) = quiet fetched scene (commands.At name nums) (mild_unless is_outer scene _ (place_causes scene name nums (is_cell_coord (dim_of scene name))) refl refl)
-quiet_turn fetched scene (commands.Point name nums) = quiet fetched scene (commands.Point name nums) (mild_unless is_outer scene _ (place_causes scene name nums (is_point_coord (dim_of scene name))) refl refl)
-quiet_turn fetched scene (commands.Save name form file) = quiet fetched scene (commands.Save name form file) (mild_unless is_outer scene _ (name_causes scene name) refl refl)
-quiet_turn fetched scene commands.List = quiet fetched scene commands.List (mild_reply is_outer scene (stays scene (Listed scene.entries)) refl)
+quiet_way : (fetched : Fetches) (scene : Scene) (way : Way) → IsPlain way → IsQuiet fetched scene way
+quiet_way fetched scene (Edits edit) p =
+    let q = plain_edit scene edit in quiet fetched scene (Edits edit) (mild_unless is_outer scene _ (edit_causes scene edit) q.0 q.1)
+quiet_way fetched scene (Asks causes answer) p = quiet fetched scene (Asks causes answer) (mild_unless is_outer scene _ (causes scene) (p scene).0 (p scene).1)
+quiet_way fetched scene (Loads name form file) p = quiet_load fetched scene name file form
+quiet_way fetched scene (Saves name form file) p = quiet fetched scene (Saves name form file) (mild_unless is_outer scene _ (save_causes scene name) refl refl)
 
 quiet_line : (fetched : Fetches) (scene : Scene) (r : Result Command LineError)
     → IsMild by_mark scene (line_turn fetched scene r) × (of_line (command_fetches scene) r ≡ false → IsMild is_outer scene (line_turn fetched scene r))
-quiet_line fetched scene (Ok c) = quiet_turn fetched scene c
+quiet_line fetched scene (Ok c) = quiet_way fetched scene (way_of c) (plain_way c)
 quiet_line fetched scene (Err faults.Long) = ((λ h. (refl, refl), refl), λ h. (λ k. (refl, refl), refl))
 quiet_line fetched scene (Err faults.Syntax) = ((λ h. (refl, refl), refl), λ h. (λ k. (refl, refl), refl))
 quiet_line fetched scene (Err faults.NoMemory) = ((λ h. (refl, refl), refl), λ h. (λ k. (refl, refl), refl))
@@ -139,12 +150,12 @@ others_load f g scene name file form h = let some = some_cause (first_cause (loa
         ap (λ (o : Option Code). unless_refused o scene (record { reply = Changed (changed scene (Replace name new)); scene = after scene (Replace name new); placed = None }))
         (first_front (load_causes scene name form) (file_causes fetched scene name form file) code e)
 
-others_turn : (f g : Fetches) (scene : Scene) (c : Command) → command_fetches scene c ≡ false → turn_of f scene c ≡ turn_of g scene c
-others_turn f g scene (commands.Load name form file) h = others_load f g scene name file form h
-others_turn f g scene _ h = refl
+others_way : (f g : Fetches) (scene : Scene) (way : Way) → way_fetches scene way ≡ false → way_turn f scene way ≡ way_turn g scene way
+others_way f g scene (Loads name form file) h = others_load f g scene name file form h
+others_way f g scene _ h = refl
 
 others_line : (f g : Fetches) (scene : Scene) (r : Result Command LineError) → of_line (command_fetches scene) r ≡ false → line_turn f scene r ≡ line_turn g scene r
-others_line f g scene (Ok c) h = others_turn f g scene c h
+others_line f g scene (Ok c) h = others_way f g scene (way_of c) h
 others_line f g scene (Err faults.Long) h = refl
 others_line f g scene (Err faults.Syntax) h = refl
 others_line f g scene (Err faults.NoMemory) h = refl
@@ -158,46 +169,28 @@ leaves : (scene : Scene) (o : Option Code) (turn : Turn) → turn.scene ≡ scen
 leaves scene None turn h = h
 leaves scene (Some code) turn h = refl
 
-question_turn : (fetched : Fetches) (scene : Scene) (c : Command) → is_edit c ≡ false → (turn_of fetched scene c).scene ≡ scene
-question_turn fetched scene commands.Blank h = refl
-question_turn fetched scene (commands.Show name) h = leaves scene (first_cause (name_causes scene name)) _ refl
-question_turn fetched scene (commands.Section name axis at) h = leaves scene (first_cause (section_causes scene name axis at)) _ refl
-question_turn fetched scene (commands.Project name axis) h = leaves scene (first_cause (axis_causes scene name axis)) _ refl
-question_turn fetched scene (commands.Content name) h = leaves scene (first_cause (name_causes scene name)) _ refl
-question_turn fetched scene (commands.Boundary name) h = leaves scene (first_cause (name_causes scene name)) _ refl
-question_turn fetched scene (commands.At name nums) h = leaves scene (first_cause (place_causes scene name nums (is_cell_coord (dim_of scene name)))) _ refl
-question_turn fetched scene (commands.Point name nums) h = leaves scene (first_cause (place_causes scene name nums (is_point_coord (dim_of scene name)))) _ refl
-question_turn fetched scene (commands.Save name form file) h = leaves scene (first_cause (name_causes scene name)) _ refl
-question_turn fetched scene commands.List h = refl
-question_turn fetched scene _ h = absurd (false≢true (sym h))
+question_way : (fetched : Fetches) (scene : Scene) (way : Way) → is_edit_way way ≡ false → (way_turn fetched scene way).scene ≡ scene
+question_way fetched scene (Asks causes answer) h = leaves scene (first_cause (causes scene)) _ refl
+question_way fetched scene (Saves name form file) h = leaves scene (first_cause (save_causes scene name)) _ refl
+question_way fetched scene _ h = absurd (false≢true (sym h))
 
 pub question_leaves : (fetched : Fetches) (scene : Scene) (line : List ℕ) (c : Command) → command line ≡ Ok c → is_edit c ≡ false → (step fetched scene line).scene ≡ scene
 unfolding step
-question_leaves fetched scene line c e h = ap (λ (r : Result Command LineError). (line_turn fetched scene r).scene) e ∙ question_turn fetched scene c h
+question_leaves fetched scene line c e h = ap (λ (r : Result Command LineError). (line_turn fetched scene r).scene) e ∙ question_way fetched scene (way_of c) h
 
 -- a line that is no save places no file
 unplaced : (scene : Scene) (o : Option Code) (turn : Turn) → turn.placed ≡ None → (unless_refused o scene turn).placed ≡ None
 unplaced scene None turn h = h
 unplaced scene (Some code) turn h = refl
 
+unsaved_way : (fetched : Fetches) (scene : Scene) (way : Way) → is_save_way way ≡ false → (way_turn fetched scene way).placed ≡ None
+unsaved_way fetched scene (Edits edit) h = unplaced scene (refusal scene edit) _ refl
+unsaved_way fetched scene (Asks causes answer) h = unplaced scene (first_cause (causes scene)) _ refl
+unsaved_way fetched scene (Loads name form file) h = unplaced scene (first_cause (load_causes scene name form ++ file_causes fetched scene name form file)) _ refl
+unsaved_way fetched scene (Saves name form file) h = absurd (false≢true (sym h))
+
 pub unsaved_turn : (fetched : Fetches) (scene : Scene) (c : Command) → is_save c ≡ false → (turn_of fetched scene c).placed ≡ None
-unsaved_turn fetched scene commands.Blank h = refl
-unsaved_turn fetched scene (commands.Input name dim) h = unplaced scene (refusal scene (Input name dim)) _ refl
-unsaved_turn fetched scene (commands.Toggle name nums) h = unplaced scene (refusal scene (Toggle name nums)) _ refl
-unsaved_turn fetched scene (commands.Add name nums) h = unplaced scene (refusal scene (Add name nums)) _ refl
-unsaved_turn fetched scene (commands.Cut name nums) h = unplaced scene (refusal scene (Cut name nums)) _ refl
-unsaved_turn fetched scene (commands.Load name form file) h = unplaced scene (first_cause (load_causes scene name form ++ file_causes fetched scene name form file)) _ refl
-unsaved_turn fetched scene (commands.Def name formula) h = unplaced scene (refusal scene (Def name formula)) _ refl
-unsaved_turn fetched scene (commands.Drop name) h = unplaced scene (refusal scene (Drop name)) _ refl
-unsaved_turn fetched scene (commands.Show name) h = unplaced scene (first_cause (name_causes scene name)) _ refl
-unsaved_turn fetched scene (commands.Section name axis at) h = unplaced scene (first_cause (section_causes scene name axis at)) _ refl
-unsaved_turn fetched scene (commands.Project name axis) h = unplaced scene (first_cause (axis_causes scene name axis)) _ refl
-unsaved_turn fetched scene (commands.Content name) h = unplaced scene (first_cause (name_causes scene name)) _ refl
-unsaved_turn fetched scene (commands.Boundary name) h = unplaced scene (first_cause (name_causes scene name)) _ refl
-unsaved_turn fetched scene (commands.At name nums) h = unplaced scene (first_cause (place_causes scene name nums (is_cell_coord (dim_of scene name)))) _ refl
-unsaved_turn fetched scene (commands.Point name nums) h = unplaced scene (first_cause (place_causes scene name nums (is_point_coord (dim_of scene name)))) _ refl
-unsaved_turn fetched scene commands.List h = refl
-unsaved_turn fetched scene (commands.Save name form file) h = absurd (false≢true (sym h))
+unsaved_turn fetched scene c h = unsaved_way fetched scene (way_of c) h
 
 unsaved_line : (fetched : Fetches) (scene : Scene) (r : Result Command LineError) → of_line is_save r ≡ false → (line_turn fetched scene r).placed ≡ None
 unsaved_line fetched scene (Ok c) h = unsaved_turn fetched scene c h
@@ -221,6 +214,27 @@ save_places fetched scene line name file form e h =
     ap (λ (r : Result Command LineError). (line_turn fetched scene r).placed) e
     ∙ made scene (first_cause (name_causes scene name)) (saved scene file (bytes_in form (value scene name))) (sym (ap (λ (r : Result Command LineError). is_no (line_turn fetched scene r).reply) e) ∙ h)
 
+-- a line asks the shelf exactly where it fetches or saves
+not_refused : (scene : Scene) (o : Option Code) (turn : Turn) → is_no turn.reply ≡ false → is_none o ≡ not (is_no (unless_refused o scene turn).reply)
+not_refused scene None turn h = sym (ap not h)
+not_refused scene (Some code) turn h = refl
+
+asked_way : (fetched : Fetches) (scene : Scene) (way : Way)
+    → way_asks scene way ≡ (way_fetches scene way || (is_save_way way && not (is_no (way_turn fetched scene way).reply)))
+asked_way fetched scene (Loads name form file) = sym (or-false (is_none (first_cause (load_causes scene name form))))
+asked_way fetched scene (Saves name form file) = not_refused scene (first_cause (save_causes scene name)) (saved scene file (bytes_in form (value scene name))) refl
+asked_way fetched scene _ = refl
+
+asked_line : (fetched : Fetches) (scene : Scene) (r : Result Command LineError)
+    → of_line (command_asks scene) r ≡ (of_line (command_fetches scene) r || (of_line is_save r && not (is_no (line_turn fetched scene r).reply)))
+asked_line fetched scene (Ok c) = asked_way fetched scene (way_of c)
+asked_line fetched scene (Err e) = refl
+
+pub asked_shelf : (fetched : Fetches) (scene : Scene) (line : List ℕ)
+    → asks scene line ≡ (fetches scene line || (of_line is_save (command line) && not (is_no (step fetched scene line).reply)))
+unfolding step fetches asks
+asked_shelf fetched scene line = asked_line fetched scene (command line)
+
 -- the scene before the first line is well: nothing stands in it
 pub well_start : IsWell start
 well_start = record { names = refl; dims = refl; sound = refl; stay = refl; stand = λ x o m. among_none o m; acyclic = λ x. refl }
@@ -236,18 +250,14 @@ well_edited scene edit reply well fits = by_cause (refusal scene edit) refl
 well_left : (scene left : Scene) → IsWell scene → left ≡ scene → IsWell left
 well_left scene left well e = rw e well
 
-well_turn : (fetched : Fetches) (scene : Scene) (c : Command) → IsWell scene → IsWell (turn_of fetched scene c).scene
-well_turn fetched scene (commands.Input name dim) well = well_edited scene (Input name dim) _ well tt
-well_turn fetched scene (commands.Toggle name nums) well = well_edited scene (Toggle name nums) _ well tt
-well_turn fetched scene (commands.Add name nums) well = well_edited scene (Add name nums) _ well tt
-well_turn fetched scene (commands.Cut name nums) well = well_edited scene (Cut name nums) _ well tt
-well_turn fetched scene (commands.Load name form file) well = well_load fetched scene name file form well
-well_turn fetched scene (commands.Def name formula) well = well_edited scene (Def name formula) _ well tt
-well_turn fetched scene (commands.Drop name) well = well_edited scene (Drop name) _ well tt
-well_turn fetched scene c well = well_left scene (turn_of fetched scene c).scene well (question_turn fetched scene c refl)
+well_way : (fetched : Fetches) (scene : Scene) (way : Way) → IsPlain way → IsWell scene → IsWell (way_turn fetched scene way).scene
+well_way fetched scene (Edits edit) p well = well_edited scene edit _ well p
+well_way fetched scene (Loads name form file) p well = well_load fetched scene name file form well
+well_way fetched scene (Asks causes answer) p well = well_left scene _ well (question_way fetched scene (Asks causes answer) refl)
+well_way fetched scene (Saves name form file) p well = well_left scene _ well (question_way fetched scene (Saves name form file) refl)
 
 well_line : (fetched : Fetches) (scene : Scene) (r : Result Command LineError) → IsWell scene → IsWell (line_turn fetched scene r).scene
-well_line fetched scene (Ok c) well = well_turn fetched scene c well
+well_line fetched scene (Ok c) well = well_way fetched scene (way_of c) (plain_way c) well
 well_line fetched scene (Err faults.Long) well = well
 well_line fetched scene (Err faults.Syntax) well = well
 well_line fetched scene (Err faults.NoMemory) well = well

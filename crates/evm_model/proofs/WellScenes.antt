@@ -13,11 +13,18 @@ use Rattle.evm_cells.specs.Shapes.{added, clip, is_shift, shift, shift_fits}
 use Rattle.evm_cells.proofs.Corners.{cell_set-box}
 use Rattle.evm_cells.proofs.Slices.{cell_set-slice}
 use Rattle.evm_cells.proofs.Moves.{cell_set-mirror, cell_set-swap, cell_set-shift}
-use Rattle.evm_cells.proofs.Lifts.{cell_set-lift, cell_set-proj}
+use Rattle.evm_cells.proofs.Lifts.{cell_set-lift, cell_set-proj, lifted_cell, without-with_at, coord-with_at}
+use Rattle.evm_cells.proofs.Universe.{absorb, has-cells}
+use Rattle.evm_cells.proofs.Coords.{le_is}
+use Rattle.std.proofs.lemmas.Int.{ints as int_facts}
+use Rattle.std.proofs.Common.{◌≤◌, ap₂, negsuc, int_le, int_lt, get_or}
+use Rattle.evm_cells.specs.Places.{has, without, with_at}
+use Rattle.evm_cells.specs.Limits.{is_point_coord}
+use Rattle.evm_cells.specs.Shapes.{lift}
 use Rattle.evm_cells.proofs.Xor.{and_first, and_second, and_both}
 use Rattle.evm_script.specs.declared.formula.Formula.{Formula}
 use Rattle.evm_script.specs.declared.formula.Formula.TheVariants.{Or, And, Sub, Xor, Box, Shift, Mirror, Swap, Clip, Slice, Proj, Lift}
-use Rattle.evm_model.specs.Figures.{Figure, nothing, box_of, box_at, box_fits, low_of, high_of, or_of, and_of, sub_of, xor_of, shift_of, shift_stays, mirror_of, swap_of, clip_of, slice_of, proj_of, lift_of}
+use Rattle.evm_model.specs.Figures.{Figure, nothing, box_of, box_at, box_fits, low_of, high_of, or_of, and_of, sub_of, xor_of, shift_of, shift_stays, mirror_of, swap_of, clip_of, slice_of, proj_of, lift_of, lift_stays}
 use Rattle.evm_model.specs.Orders.{is_among}
 use Rattle.evm_model.specs.Scene.{What, Given, Made, Entry, Scene, has_name, entry_of, stands, dim_of, dim_of_entry, operands, what_operands, entry_operands, operands_of, formula_value, what_value, what_stays, entry_value, value, reaches, is_dim, is_axis, is_range, formula_dim, formula_fits, formula_in_range, names_differ, what_is_sound, IsWell, reaches_within, IsOrderOf}
 use Rattle.evm_model.proofs.Names.{by_test, not_both, same_name, name_itself, among_here, among_later, among_none, not_true, any_less, or_right, by_or}
@@ -136,6 +143,11 @@ all_moved p f [] h = refl
 all_moved {X} {Y} p f (x ∷ xs) h =
     ap (λ (b : Bool). cond b (f x ∷ filter p (map f xs)) (filter p (map f xs))) (and_first (p (f x)) (list_all (λ y. p (f y)) xs) h)
     ∙ ap (λ (ys : List Y). f x ∷ ys) (all_moved p f xs (and_second (p (f x)) (list_all (λ y. p (f y)) xs) h))
+
+-- an axis, as a number
+axis_at : (n : ℕ) (axis : ℤ) → is_axis n axis ≡ true → nat_abs axis ≤ n
+axis_at n (pos a) h = let l = le_is (pos a) (pos n) (and_second (int_le (pos 1) (pos a)) (int_le (pos a) (pos n)) h) in omega (arith, int_facts, l)
+axis_at n (negsuc a) h = absurd (false≢true h)
 
 module _ (scene : Scene) (well : IsWell scene) where
   abbrev order_of_names : (order : List (List ℕ)) × IsOrderOf scene order
@@ -258,6 +270,40 @@ module _ (scene : Scene) (well : IsWell scene) where
   shift_cells x o nums e q f =
       ap (λ (a : Figure). a.cells) (well_value scene well x ∙ ap (λ (t : Option Entry). entry_value t (value scene)) q ∙ ap (λ (w : What). what_value e.dim w (value scene)) f)
       ∙ all_moved (is_cell (value scene o).dim) (added nums) (value scene o).cells (sym (ap (λ (w : What). what_stays w (value scene)) f) ∙ found_stays x e q)
+
+  -- a lift has each cell of its operand, at each of its heights
+  pub lift_cells : (x o : List ℕ) (axis lo hi k : ℤ) (c : List ℤ) (e : Entry) → entry_of scene.entries x ≡ Some e → e.what ≡ Made (Lift o axis lo hi)
+      → length c ≡ dim_of scene o → has (value scene x).cells (with_at (nat_abs axis - 1) k c) ≡ (has (value scene o).cells c && (int_le lo k && int_lt k hi))
+  unfolding lift_of lift_stays lift
+  lift_cells x o axis lo hi k c e q f long =
+      ap (λ (a : Figure). has a.cells p) (well_value scene well x ∙ ap (λ (t : Option Entry). entry_value t (value scene)) q ∙ ap (λ (w : What). what_value e.dim w (value scene)) f)
+      ∙ has-cells n (λ d. has S (without i d) && (int_le lo (get_or d i (pos 0)) && int_lt (get_or d i (pos 0)) hi)) p
+      ∙ ap (λ (b : Bool). is_cell n p && b) (ap₂ (λ (d : List ℤ) (j : ℤ). has S d && (int_le lo j && int_lt j hi)) (without-with_at i k c inside) (coord-with_at i k c inside))
+      ∙ absorb (is_cell n p) (has S c && (int_le lo k && int_lt k hi))
+      (λ h. lifted_cell n i lo hi k S c (and_second (is_point_coord m lo && is_point_coord m hi) (int_lt lo hi) (sound_range scene e.dim (Lift o axis lo hi) sound))
+      (sym (ap (λ (w : What). what_stays w (value scene)) f) ∙ found_stays x e q)
+      (and_first (has S c) (int_le lo k && int_lt k hi) h) (and_second (has S c) (int_le lo k && int_lt k hi) h))
+    where
+      S : List (List ℤ)
+      S = (value scene o).cells
+
+      n : ℕ
+      n = (value scene o).dim + 1
+
+      m : ℕ
+      m = dim_of scene o + 1
+
+      i : ℕ
+      i = nat_abs axis - 1
+
+      p : List ℤ
+      p = with_at i k c
+
+      sound : what_is_sound scene e.dim (Made (Lift o axis lo hi)) ≡ true
+      sound = subst (λ (w : What). what_is_sound scene e.dim w ≡ true) f (found_sound x e q)
+
+      inside : i ≤ length c
+      inside = omega (arith, long, axis_at m axis (and_second (not (dim_of scene o == 6)) (is_axis m axis) (sound_fits scene e.dim (Lift o axis lo hi) sound)))
 
 -- what each entry that is found passes, all entries pass, where names differ
 pub all_entries : (p : Entry → Bool) (es : List Entry) → names_differ es ≡ true → ((x : List ℕ) (e : Entry) → entry_of es x ≡ Some e → p e ≡ true) → list_all p es ≡ true

@@ -1,18 +1,13 @@
 -- Figures: the solids of a scene, each a cell set with its dimension.
-use Rattle.std.specs.Prelude.{ℕ, ◌+◌, ◌-◌, ◌==◌, Bool, ◌&&◌, if◌then◌else◌, ℤ, nat_abs, ◌-ℤ◌, List, [], length, take, drop}
+use Rattle.std.specs.Prelude.{ℕ, ◌+◌, ◌-◌, ◌==◌, Bool, ◌&&◌, if◌then◌else◌, ℤ, List, [], length, take, drop}
 use Rattle.std.specs.List.{list_all}
-use Rattle.evm_cells.specs.Places.{has, with_at}
-use Rattle.evm_cells.specs.Limits.{is_cell, ints}
+use Rattle.evm_cells.specs.Places.{has}
 use Rattle.evm_cells.specs.Booleans.{or_cells, and_cells, sub_cells, xor_cells}
 use Rattle.evm_cells.specs.Vertices.{evm}
 use Rattle.evm_cells.specs.Boxes.{box_cells, is_box}
 use Rattle.evm_cells.specs.Sections.{slice}
-use Rattle.evm_cells.specs.Shapes.{shift, shift_fits, mirror, swap_axes, clip, proj, lift}
+use Rattle.evm_cells.specs.Shapes.{shift, shift_fits, mirror, swap_axes, clip, proj, lift, lift_fits}
 use Rattle.evm_cells.specs.Measures.{content, boundary, is_inside, is_outside}
-
--- each place with a height from lo up to, but not at, hi put in at axis i of a cell of S is a cell of dimension n
-unfoldable pub lift_fits : ℕ → ℕ → ℤ → ℤ → List (List ℤ) → Bool
-lift_fits n i lo hi S = list_all (λ c. list_all (λ k. is_cell n (with_at i k c)) (ints lo (nat_abs (hi -ℤ lo)))) S
 
 -- a dimension, and cells of it in ascending order
 pub record Figure : Type 0 where

@@ -2,9 +2,9 @@
 use Rattle.std.specs.Prelude.{ℕ, nat_abs, nat_le, Bool, true, List, Option, None, Some, Result, Ok, Err, ℤ, pos, int_le, ◌&&◌, bytes_eq, if◌then◌else◌}
 use Rattle.evm_cells.specs.Vertices.{cells}
 use Rattle.evm_formats.specs.File.{file_of_cells, stated_rows}
-use Rattle.evm_boxes.specs.BoxFile as boxes
-use Rattle.evm_voxels.specs.Pgm.{pgm_cells}
-use Rattle.evm_voxels.specs.Y4m.{y4m_cells}
+use Rattle.evm_formats.specs.BoxFile as boxes
+use Rattle.evm_formats.specs.Pgm.{pgm_cells}
+use Rattle.evm_formats.specs.Y4m.{y4m_cells}
 use Rattle.evm_script.specs.declared.files.LoadForm.{LoadForm}
 use Rattle.evm_script.specs.declared.files.LoadForm.TheVariants as forms
 use Rattle.evm_script.specs.declared.files.SaveForm.{SaveForm}

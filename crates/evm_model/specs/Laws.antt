@@ -1,8 +1,10 @@
 -- Laws of figures, scenes, edits, replies, steps and runs.
-use Rattle.std.specs.Prelude.{ℕ, ◌≡◌, ◌≢◌, ◌↔◌, ◌≤◌, ◌⊎◌, Bool, true, false, not, ◌||◌, nat_eq, nat_abs, ℤ, pos, List, [], ◌∷◌, ◌++◌, length, take, map, flat_map, codes, Option, Some, None, Ok, bytes_eq, count_by, if◌then◌else◌}
+use Rattle.std.specs.Prelude.{ℕ, ◌≡◌, ◌≢◌, ◌↔◌, ◌≤◌, ◌⊎◌, Bool, true, false, not, ◌&&◌, ◌||◌, nat_eq, nat_abs, ℤ, pos, int_le, int_lt, ◌-◌, List, [], ◌∷◌, ◌++◌, length, take, map, flat_map, codes, Option, Some, None, Ok, bytes_eq, count_by, if◌then◌else◌}
 use Rattle.std.specs.List.{list_any, list_all, starts_with}
+use Rattle.evm_cells.specs.Places.{has, with_at}
 use Rattle.evm_cells.specs.Limits.{IsCellSet}
 use Rattle.evm_cells.specs.Shapes.{added}
+use Rattle.evm_text.specs.Lines.{lines}
 use Rattle.evm_script.specs.Line.{command}
 use Rattle.evm_script.specs.declared.command.Command.{Command}
 use Rattle.evm_script.specs.declared.command.Command.TheVariants as commands
@@ -12,15 +14,15 @@ use Rattle.evm_script.specs.declared.files.LoadForm.TheVariants as forms
 use Rattle.evm_script.specs.declared.files.SaveForm.{SaveForm}
 use Rattle.evm_script.specs.declared.files.SaveForm.TheVariants as saves
 use Rattle.evm_script.specs.declared.formula.Formula.{Formula}
-use Rattle.evm_script.specs.declared.formula.Formula.TheVariants.{Shift}
+use Rattle.evm_script.specs.declared.formula.Formula.TheVariants.{Shift, Lift}
 use Rattle.evm_model.specs.Figures.{Figure, nothing, box_at, xor_of, or_of, sub_of, same_figure}
 use Rattle.evm_model.specs.Files.{Fetches, form_fits, figure_in, figure_fetched, bytes_in}
 use Rattle.evm_model.specs.Orders.{is_among}
 use Rattle.evm_model.specs.Scene.{Scene, Entry, Made, start, entry_of, stands, dim_of, operands_of, formula_value, entry_value, value, reaches, is_read, all_stay, with_figure, is_dim, IsWell, IsOrderOf}
 use Rattle.evm_model.specs.Edits.{Edit, Input, Toggle, Add, Cut, Replace, Def, Drop, Missing, Shelf, Form, Memory, EditFits, name_of, refusal, after, changed, changed_names}
 use Rattle.evm_model.specs.Replies.{Reply, No, reply_text, line_of, is_no}
-use Rattle.evm_model.specs.Steps.{step, fetches, of_line}
-use Rattle.evm_model.specs.Runs.{World, Mark, Plain, Fetched, lines, answer, fetched_from, run, world_after}
+use Rattle.evm_model.specs.Steps.{Way, Edits, Loads, Saves, way_of, step, fetches, asks, of_line}
+use Rattle.evm_model.specs.Runs.{World, Mark, Plain, Fetched, answer, fetched_from, run, world_after}
 
 -- two figures that are cell sets are the same exactly where they are equal
 abbrev pub SameIsEqual : Type 0
@@ -40,24 +42,13 @@ RefusalChangesNothing = (fetched : Fetches) (scene : Scene) (line : List ℕ) �
     → ((step fetched scene line).scene ≡ scene) × ((step fetched scene line).placed ≡ None)
 
 -- a command that edits the scene
+abbrev pub is_edit_way : Way → Bool
+is_edit_way (Edits edit) = true
+is_edit_way (Loads name form file) = true
+is_edit_way _ = false
+
 abbrev pub is_edit : Command → Bool
-is_edit commands.Blank = false
-is_edit (commands.Input name dim) = true
-is_edit (commands.Toggle name nums) = true
-is_edit (commands.Add name nums) = true
-is_edit (commands.Cut name nums) = true
-is_edit (commands.Load name form file) = true
-is_edit (commands.Def name formula) = true
-is_edit (commands.Drop name) = true
-is_edit (commands.Show name) = false
-is_edit (commands.Section name axis at) = false
-is_edit (commands.Project name axis) = false
-is_edit (commands.Content name) = false
-is_edit (commands.Boundary name) = false
-is_edit (commands.At name nums) = false
-is_edit (commands.Point name nums) = false
-is_edit commands.List = false
-is_edit (commands.Save name form file) = false
+is_edit c = is_edit_way (way_of c)
 
 -- a line that is no edit leaves the scene
 abbrev pub QuestionsLeaveScene : Type 0
@@ -118,6 +109,14 @@ abbrev pub ShiftsMoveAllCells : Type 0
 ShiftsMoveAllCells = (scene : Scene) (name operand : List ℕ) (nums : List ℤ) (e : Entry) → IsWell scene
     → entry_of scene.entries name ≡ Some e → e.what ≡ Made (Shift operand nums)
     → (value scene name).cells ≡ map (added nums) (value scene operand).cells
+
+-- the value of a lift has each cell of its operand, with each height from lo up to, but not at, hi put in at its axis, and no
+-- other: none is lost at the limits
+abbrev pub LiftsKeepAllCells : Type 0
+LiftsKeepAllCells = (scene : Scene) (name operand : List ℕ) (axis lo hi height : ℤ) (cell : List ℤ) (e : Entry) → IsWell scene
+    → entry_of scene.entries name ≡ Some e → e.what ≡ Made (Lift operand axis lo hi) → length cell ≡ dim_of scene operand
+    → has (value scene name).cells (with_at (nat_abs axis - 1) height cell)
+    ≡ (has (value scene operand).cells cell && (int_le lo height && int_lt height hi))
 
 -- what a name reads stands
 abbrev pub OperandsStand : Type 0
@@ -234,13 +233,21 @@ SavesPlaceValues = (fetched : Fetches) (scene : Scene) (line name file : List �
     → (step fetched scene line).placed ≡ Some (file, bytes_in form (value scene name))
 
 -- a command that saves
+abbrev pub is_save_way : Way → Bool
+is_save_way (Saves name form file) = true
+is_save_way _ = false
+
 abbrev pub is_save : Command → Bool
-is_save (commands.Save name form file) = true
-is_save _ = false
+is_save c = is_save_way (way_of c)
 
 -- a line that is no save places no file
 abbrev pub OnlySavesPlace : Type 0
 OnlySavesPlace = (fetched : Fetches) (scene : Scene) (line : List ℕ) → of_line is_save (command line) ≡ false → (step fetched scene line).placed ≡ None
+
+-- a line asks the shelf exactly where it fetches a file or is a save that its step does not refuse
+abbrev pub ShelfIsAsked : Type 0
+ShelfIsAsked = (fetched : Fetches) (scene : Scene) (line : List ℕ)
+    → asks scene line ≡ (fetches scene line || (of_line is_save (command line) && not (is_no (step fetched scene line).reply)))
 
 -- two solids are saved in equal bytes exactly if they are equal
 abbrev pub SavedBytesTellSolids : Type 0

@@ -9,21 +9,6 @@ use Rattle.evm_model.specs.Edits.{Shelf, Memory}
 use Rattle.evm_model.specs.Replies.{Reply, No, reply_text, is_no}
 use Rattle.evm_model.specs.Steps.{Turn, step, fetches, asks}
 
--- the last part of a script that was cut at each LF: a line where it is not empty
-abbrev pub last_line : List ℕ → List (List ℕ)
-last_line [] = []
-last_line (b ∷ bs) = (b ∷ bs) ∷ []
-
--- the lines of a script that was cut at each LF
-abbrev pub lines_of_parts : List (List ℕ) → List (List ℕ)
-lines_of_parts [] = []
-lines_of_parts (x ∷ []) = last_line x
-lines_of_parts (x ∷ y ∷ more) = x ∷ lines_of_parts (y ∷ more)
-
--- the lines of a script: cut at each LF
-unfoldable pub lines : List ℕ → List (List ℕ)
-lines script = lines_of_parts (slice_split (λ b. nat_eq b 10) script)
-
 -- how it went at a line: it was answered; memory was missing; the shelf failed; or it was answered with what a shelf that does
 -- not tell its files gave
 pub data Mark : Type 0 where

@@ -7,6 +7,7 @@ use Rattle.evm_script.specs.declared.command.Command.TheVariants as commands
 use Rattle.evm_script.specs.declared.command.LineError.{LineError}
 use Rattle.evm_script.specs.declared.command.LineError.TheVariants as faults
 use Rattle.evm_script.specs.declared.files.LoadForm.{LoadForm}
+use Rattle.evm_script.specs.declared.files.SaveForm.{SaveForm}
 use Rattle.evm_model.specs.Figures.{Figure, content_of, boundary_of, fills, place_of, slice_of, proj_of}
 use Rattle.evm_model.specs.Files.{Fetches, form_fits, form_in_range, figure_fetched, or_nothing, bytes_in}
 use Rattle.evm_model.specs.Scene.{Scene, value, stands, dim_of, is_input}
@@ -66,33 +67,64 @@ load_turn fetched scene name form file =
       placed = None;
     })
 
+-- what refuses a save before its file is placed
+abbrev pub save_causes : Scene → List ℕ → List (Bool × Code)
+save_causes scene name = name_causes scene name
+
 -- a file that is placed, which leaves the scene
 abbrev pub saved : Scene → List ℕ → List ℕ → Turn
 saved scene file bytes = record { reply = Measured (length bytes); scene = scene; placed = Some (file, bytes) }
 
--- what a command does in a scene, where fetches give this
+-- a save that is refused, or places the file of the value of its name
+abbrev pub save_turn : Scene → List ℕ → SaveForm → List ℕ → Turn
+save_turn scene name form file = unless_refused (first_cause (save_causes scene name)) scene (saved scene file (bytes_in form (value scene name)))
+
+-- the ways that commands go: an edit; a question, with what refuses it and its answer; a load; and a save
+pub data Way : Type 0 where
+  Edits : Edit → Way
+  Asks : (Scene → List (Bool × Code)) → (Scene → Reply) → Way
+  Loads : List ℕ → LoadForm → List ℕ → Way
+  Saves : List ℕ → SaveForm → List ℕ → Way
+
+-- the way of a command
+abbrev pub way_of : Command → Way
+way_of commands.Blank = Asks (λ scene. []) (λ scene. Empty)
+way_of (commands.Input name dim) = Edits (Input name dim)
+way_of (commands.Toggle name nums) = Edits (Toggle name nums)
+way_of (commands.Add name nums) = Edits (Add name nums)
+way_of (commands.Cut name nums) = Edits (Cut name nums)
+way_of (commands.Load name form file) = Loads name form file
+way_of (commands.Def name formula) = Edits (Def name formula)
+way_of (commands.Drop name) = Edits (Drop name)
+way_of commands.List = Asks (λ scene. []) (λ scene. Listed scene.entries)
+way_of (commands.Show name) = Asks (λ scene. name_causes scene name) (λ scene. Shown (value scene name))
+way_of (commands.Section name axis at) =
+    Asks (λ scene. section_causes scene name axis at) (λ scene. Shown (slice_of (nat_abs axis) at (value scene name)))
+way_of (commands.Project name axis) = Asks (λ scene. axis_causes scene name axis) (λ scene. Shown (proj_of (nat_abs axis) (value scene name)))
+way_of (commands.Content name) = Asks (λ scene. name_causes scene name) (λ scene. Measured (content_of (value scene name)))
+way_of (commands.Boundary name) = Asks (λ scene. name_causes scene name) (λ scene. Measured (boundary_of (value scene name)))
+way_of (commands.At name nums) =
+    Asks (λ scene. place_causes scene name nums (is_cell_coord (dim_of scene name))) (λ scene. Filled (fills (value scene name) nums))
+way_of (commands.Point name nums) =
+    Asks (λ scene. place_causes scene name nums (is_point_coord (dim_of scene name))) (λ scene. Placed (place_of (value scene name) nums))
+way_of (commands.Save name form file) = Saves name form file
+
+-- the answer to an edit: how many names it changes, which is none where it makes its name or takes it out
+abbrev pub edit_reply : Scene → Edit → Reply
+edit_reply scene (Input name dim) = Changed 0
+edit_reply scene (Drop name) = Changed 0
+edit_reply scene edit = Changed (changed scene edit)
+
+-- what a way does in a scene, where fetches give this
+abbrev pub way_turn : Fetches → Scene → Way → Turn
+way_turn fetched scene (Edits edit) = edited scene edit (edit_reply scene edit)
+way_turn fetched scene (Asks causes answer) = asked (causes scene) scene (answer scene)
+way_turn fetched scene (Loads name form file) = load_turn fetched scene name form file
+way_turn fetched scene (Saves name form file) = save_turn scene name form file
+
+-- what a command does
 abbrev pub turn_of : Fetches → Scene → Command → Turn
-turn_of fetched scene commands.Blank = stays scene Empty
-turn_of fetched scene (commands.Input name dim) = edited scene (Input name dim) (Changed 0)
-turn_of fetched scene (commands.Toggle name nums) = edited scene (Toggle name nums) (Changed (changed scene (Toggle name nums)))
-turn_of fetched scene (commands.Add name nums) = edited scene (Add name nums) (Changed (changed scene (Add name nums)))
-turn_of fetched scene (commands.Cut name nums) = edited scene (Cut name nums) (Changed (changed scene (Cut name nums)))
-turn_of fetched scene (commands.Load name form file) = load_turn fetched scene name form file
-turn_of fetched scene (commands.Def name formula) = edited scene (Def name formula) (Changed (changed scene (Def name formula)))
-turn_of fetched scene (commands.Drop name) = edited scene (Drop name) (Changed 0)
-turn_of fetched scene commands.List = stays scene (Listed scene.entries)
-turn_of fetched scene (commands.Show name) = asked (name_causes scene name) scene (Shown (value scene name))
-turn_of fetched scene (commands.Section name axis at) =
-    asked (section_causes scene name axis at) scene (Shown (slice_of (nat_abs axis) at (value scene name)))
-turn_of fetched scene (commands.Project name axis) = asked (axis_causes scene name axis) scene (Shown (proj_of (nat_abs axis) (value scene name)))
-turn_of fetched scene (commands.Content name) = asked (name_causes scene name) scene (Measured (content_of (value scene name)))
-turn_of fetched scene (commands.Boundary name) = asked (name_causes scene name) scene (Measured (boundary_of (value scene name)))
-turn_of fetched scene (commands.At name nums) =
-    asked (place_causes scene name nums (is_cell_coord (dim_of scene name))) scene (Filled (fills (value scene name) nums))
-turn_of fetched scene (commands.Point name nums) =
-    asked (place_causes scene name nums (is_point_coord (dim_of scene name))) scene (Placed (place_of (value scene name) nums))
-turn_of fetched scene (commands.Save name form file) =
-    unless_refused (first_cause (name_causes scene name)) scene (saved scene file (bytes_in form (value scene name)))
+turn_of fetched scene c = way_turn fetched scene (way_of c)
 
 -- a line that is no command is refused (a definition of commands never lacks memory)
 abbrev pub line_turn : Fetches → Scene → Result Command LineError → Turn
@@ -106,15 +138,21 @@ unfoldable pub step : Fetches → Scene → List ℕ → Turn
 step fetched scene line = line_turn fetched scene (command line)
 
 -- whether a command fetches a file: a load that nothing refuses before
+abbrev pub way_fetches : Scene → Way → Bool
+way_fetches scene (Loads name form file) = is_none (first_cause (load_causes scene name form))
+way_fetches scene _ = false
+
 abbrev pub command_fetches : Scene → Command → Bool
-command_fetches scene (commands.Load name form file) = is_none (first_cause (load_causes scene name form))
-command_fetches scene _ = false
+command_fetches scene c = way_fetches scene (way_of c)
 
 -- whether a command asks the shelf: it fetches, or it is a save that nothing refuses
+abbrev pub way_asks : Scene → Way → Bool
+way_asks scene (Loads name form file) = is_none (first_cause (load_causes scene name form))
+way_asks scene (Saves name form file) = is_none (first_cause (save_causes scene name))
+way_asks scene _ = false
+
 abbrev pub command_asks : Scene → Command → Bool
-command_asks scene (commands.Load name form file) = is_none (first_cause (load_causes scene name form))
-command_asks scene (commands.Save name form file) = is_none (first_cause (name_causes scene name))
-command_asks scene _ = false
+command_asks scene c = way_asks scene (way_of c)
 
 -- whether a test of commands holds of a line, which may be none
 abbrev pub of_line : (Command → Bool) → Result Command LineError → Bool

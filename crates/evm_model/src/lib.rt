@@ -20,12 +20,12 @@ ghost use Rattle.evm_model.specs.Laws.{RefusalChangesNothing, QuestionsLeaveScen
 ghost use Rattle.evm_model.specs.Laws.{StepHasMemory, StartIsWell, StepsKeepWell, EditsKeepWell};
 ghost use Rattle.evm_model.specs.Laws.{ValuesFollowFormulas, FormulasDetermineValues, ReachingFollowsFormulas};
 ghost use Rattle.evm_model.specs.Laws.{NoneReachesItself, NamesHaveOrder, OrdersShowWell};
-ghost use Rattle.evm_model.specs.Laws.{ShiftsMoveAllCells, OperandsStand, DimIsOfValue, ValuesAreCellSets};
+ghost use Rattle.evm_model.specs.Laws.{ShiftsMoveAllCells, LiftsKeepAllCells, OperandsStand, DimIsOfValue, ValuesAreCellSets};
 ghost use Rattle.evm_model.specs.Laws.{OthersStay, OthersStand, InputsStartEmpty, BoxesCombine, ReplacementsHold, DefinitionsHold, DropsTakeOut};
 ghost use Rattle.evm_model.specs.Laws.{ChangedReachName, NewNamesChangeNone, DropsChangeNone, OneNameChanges};
 ghost use Rattle.evm_model.specs.Laws.{SameFigureStays, ToggleChangesName, ToggleCountsName};
 ghost use Rattle.evm_model.specs.Laws.{LoadsReadTheirFile, OthersReadNone, LoadsTakeFigure, MissingIsNoFile, MissingIsFetched, FormIsNoFigure};
-ghost use Rattle.evm_model.specs.Laws.{SavesPlaceValues, OnlySavesPlace, SavedBytesTellSolids, SavedBytesTellNames, SavedBytesLoad, FiguresAreCellSets};
+ghost use Rattle.evm_model.specs.Laws.{SavesPlaceValues, OnlySavesPlace, ShelfIsAsked, SavedBytesTellSolids, SavedBytesTellNames, SavedBytesLoad, FiguresAreCellSets};
 ghost use Rattle.evm_model.specs.Laws.{RefusedLeavesWorld, AnswersKeepWell, RunsKeepWell, RunLeavesFiles, SavedFileIsThere, FetchedIsTold};
 ghost use Rattle.evm_model.specs.Laws.{OneReplyEach, FrontOfRun, LaterLinesWait, LinesHaveNoLf, LinesMakeScript};
 
@@ -61,6 +61,7 @@ pub fn steps_keep_scenes()
 /// - `values`: the value of an input is its cells, and that of a formula is what it makes of the values of its operands.
 /// - `only`: nothing else follows the formulas, so that they determine the values.
 /// - `shifts`: a shift moves each cell of its operand, and loses none at the limits.
+/// - `lifts`: a lift has each cell of its operand at each of its heights, and loses none at the limits.
 /// - `reaching`: a name reaches what it reads, what that reaches, and no more.
 /// - `cycles`: no name reaches itself.
 /// - `order`: so the names can be put in an order in which the operands of each come before it.
@@ -72,6 +73,7 @@ pub fn values_follow_formulas()
     ensures values { ValuesFollowFormulas }
     ensures only { FormulasDetermineValues }
     ensures shifts { ShiftsMoveAllCells }
+    ensures lifts { LiftsKeepAllCells }
     ensures reaching { ReachingFollowsFormulas }
     ensures cycles { NoneReachesItself }
     ensures order { NamesHaveOrder }
@@ -142,12 +144,14 @@ pub fn loads_read_files()
 ///
 /// - `places`: a save that is not refused places the bytes of the value of its name.
 /// - `only`: no other line places a file.
+/// - `asks`: a line asks the shelf exactly where it fetches a file or is a save that its step does not refuse.
 /// - `solids`: two solids are saved in equal bytes exactly if they are equal.
 /// - `names`: so two names of one dimension are saved in equal bytes exactly if they have the same cells.
 /// - `loads`: bytes state a solid as an EVM file exactly if it is saved in these bytes.
 pub fn saves_write_files()
     ensures places { SavesPlaceValues }
     ensures only { OnlySavesPlace }
+    ensures asks { ShelfIsAsked }
     ensures solids { SavedBytesTellSolids }
     ensures names { SavedBytesTellNames }
     ensures loads { SavedBytesLoad }

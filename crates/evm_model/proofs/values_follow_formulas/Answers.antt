@@ -1,4 +1,4 @@
-use Rattle.evm_model.proofs.WellScenes.{well_value, well_unique, well_reaches, well_order, ordered_stand, value_dim, value_cells, shift_cells}
+use Rattle.evm_model.proofs.WellScenes.{well_value, well_unique, well_reaches, well_order, ordered_stand, value_dim, value_cells, shift_cells, lift_cells}
 use Rattle.evm_model.proofs.values_follow_formulas.Goals as goal
 
 pub returns-clause-values : goal.returns-clause-values
@@ -30,3 +30,6 @@ returns-clause-order c = well_order
 
 pub returns-clause-ordered : goal.returns-clause-ordered
 returns-clause-ordered c = ordered_stand
+
+pub returns-clause-lifts : goal.returns-clause-lifts
+returns-clause-lifts c = λ scene name operand axis lo hi height cell e well q f long. lift_cells scene well name operand axis lo hi height cell e q f long
