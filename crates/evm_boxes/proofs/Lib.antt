@@ -1,7 +1,4 @@
-pub mod DigitSums
-pub mod LineCuts
-pub mod WordCuts
-pub mod UnionMembers
+pub mod UnionRows
 pub mod NumberRuns
 pub mod RowSteps
 pub mod FileSteps

@@ -3,7 +3,7 @@ use Rattle.std.proofs.Common.{◌≡◌, ℕ, ◌+◌, ◌*◌, ◌<◌, ◌≤�
 use Rattle.std.proofs.lemmas.List.{take_more, take_more_set, take_all, length-take, length-drop}
 use Rattle.evm_cells.specs.Boxes.{is_box}
 use Rattle.evm_rows.proofs.BoxTests.{sides_pass, side_passes, sides_start, sides-drop, sides_end}
-use Rattle.evm_boxes.specs.BoxRows.{ends_of, IsBoxRow}
+use Rattle.evm_boxes.specs.BoxRows.{ends_of, IsBoxOf}
 use Rattle.evm_boxes.specs.declared.BoxRow.{BoxRow}
 
 -- one coordinate more is copied
@@ -39,7 +39,7 @@ side_failed n i from lows highs l h f g bad e =
 -- all sides have passed, and are copied
 pub row_done : (n i : ℕ) (row : BoxRow) (from lows highs : List ℤ) → i ≡ n → length from ≡ 2 * n → lows ≡ take n from → highs ≡ drop n from
     → is_box n lows highs ≡ sides_pass n (drop i lows) (drop i highs) → row.dim ≡ n → take i row.lo ≡ take i lows → take i row.hi ≡ take i highs
-    → IsBoxRow n row × (ends_of row ≡ record { lo = take n from; hi = drop n from })
+    → IsBoxOf n from row
 row_done n i row from lows highs all size l h box d lo hi =
     let lengths = half_lengths n from lows highs size l h in
     let few : length lows ≤ i = omega arith in
@@ -47,4 +47,4 @@ row_done n i row from lows highs all size l h box d lo hi =
     let low : take row.dim row.lo ≡ lows = ap (λ (m : ℕ). take m row.lo) (d ∙ sym all) ∙ lo ∙ take_all i lows few in
     let high : take row.dim row.hi ≡ highs = ap (λ (m : ℕ). take m row.hi) (d ∙ sym all) ∙ hi ∙ take_all i highs few_high in
     let is : is_box n (ends_of row).lo (ends_of row).hi ≡ true = ap₂ (is_box n) low high ∙ box ∙ sides_end n i lows highs few few_high in
-    (record { dim = d; box = is }, λ k. record { lo = (low ∙ l) k; hi = (high ∙ h) k })
+    record { box = record { dim = d; box = is }; ends = λ k. record { lo = (low ∙ l) k; hi = (high ∙ h) k } }

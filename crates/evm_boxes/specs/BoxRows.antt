@@ -1,7 +1,7 @@
 -- What the contracts see of a box row.
-use Rattle.std.specs.Prelude.{◌≡◌, ℕ, true, take}
+use Rattle.std.specs.Prelude.{◌≡◌, ℕ, ℤ, List, true, take, drop}
 use Rattle.evm_cells.specs.Boxes.{is_box}
-use Rattle.evm_boxes.specs.Unions.{Ends}
+use Rattle.evm_cells.specs.Unions.{Ends}
 use Rattle.evm_boxes.specs.declared.BoxRow.{BoxRow}
 
 -- the two ends of a row: what stands past the dimension is left out
@@ -12,3 +12,8 @@ ends_of row = record { lo = take row.dim row.lo; hi = take row.dim row.hi }
 pub record IsBoxRow (n : ℕ) (row : BoxRow) : Type 0 where
   pub dim : row.dim ≡ n
   pub box : is_box n (ends_of row).lo (ends_of row).hi ≡ true
+
+-- the row is a box of dimension n, from the first n numbers to the others
+pub record IsBoxOf (n : ℕ) (ns : List ℤ) (row : BoxRow) : Type 0 where
+  pub box : IsBoxRow n row
+  pub ends : ends_of row ≡ record { lo = take n ns; hi = drop n ns }

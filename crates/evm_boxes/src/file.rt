@@ -1,16 +1,16 @@
 //! Reads a box file, line by line.
 
-ghost use Rattle.std.specs.Prelude.{◌≡◌, ◌+◌, ◌-◌, ◌^◌, ◌<◌, ◌≤◌, [], ◌∷◌, map, length, All, IfOk, IfSome, MatchOption};
-ghost use Rattle.std.specs.List.{position};
+ghost use Rattle.std.specs.Prelude.{◌≡◌, ◌+◌, ◌^◌, ◌<◌, ◌≤◌, ◌↔◌, Err, length, All, IfOk, IsErrOf};
+ghost use Rattle.evm_text.specs.Lines.{lines};
+ghost use Rattle.evm_formats.specs.BoxFile.{boxes_of_line, boxes_of_lines, boxes_of_file, file_cells};
 ghost use Rattle.evm_boxes.specs.BoxRows.{IsBoxRow};
-ghost use Rattle.evm_boxes.specs.Words.{is_lf, lines, without_cr, words};
-ghost use Rattle.evm_boxes.specs.BoxFile.{box_of_words, boxes_of_file, boxes_of_lines, file_cells, Reads};
-ghost use Rattle.evm_boxes.specs.Reading.{Adds, Gathers};
+ghost use Rattle.evm_boxes.specs.Reading.{Adds, Gathers, HasBoxes, Reads};
 
 use super::line::{head_dim, read_line};
 use super::union::join_rows;
 use super::{BoxFileError, BoxRow};
 use evm_rows::Solid;
+use evm_text::first_line;
 use std::alloc::Global;
 
 /// The union of the boxes that the bytes of a box file state, where dimension `dim` is asked for; or the first refusal.
@@ -22,13 +22,20 @@ use std::alloc::Global;
 ///
 /// `Head` where there is no line 1 or it is not `evm-boxes 1 DIM`; `Dim` where DIM is not `dim`; and else, for the first
 /// line that is wrong, counted from 1 and skipped lines too, `Line` where it does not consist of exactly 2 n numbers, and
-/// `Range` where some `lo` is not below its `hi` or one of the two is past the limits. `NoMemory` may stand in place of
-/// any answer.
+/// `Range` where some `lo` is not below its `hi` or one of the two is past the limits.
+///
+/// `NoMemory` may stand in place of another answer where a box stands before the first line that is wrong. So `Head` and
+/// `Dim` come whatever memory there is, and so does the refusal of a line that stands before all boxes.
 pub fn read_boxes(alloc: Global, dim: usize, bytes: &[u8]) -> Result<Solid, BoxFileError>
     requires low { 0 < dim }
     requires high { dim ≤ 6 }
     ensures dim { IfOk result (λ s. s.dim ≡ dim) }
     ensures answer { Reads result (file_cells dim bytes.now) }
+
+    // These come whatever memory there is.
+    ensures head { IsErrOf result BoxFileError.Head ↔ (file_cells dim bytes.now ≡ Err BoxFileError.Head) }
+    ensures other_dim { IsErrOf result BoxFileError.Dim ↔ (file_cells dim bytes.now ≡ Err BoxFileError.Dim) }
+    ensures memory { IsErrOf result BoxFileError.NoMemory → HasBoxes (boxes_of_file dim) (lines bytes.now) }
 {
     match read_file(alloc, dim, bytes) {
         Ok(rows) => match join_rows(alloc, dim, rows) {
@@ -45,6 +52,7 @@ fn read_file(alloc: Global, dim: usize, bytes: &[u8]) -> Result<Vec<BoxRow>, Box
     requires high { dim ≤ 6 }
     ensures boxes { IfOk result (λ rows. All (IsBoxRow dim) rows.items) }
     ensures answer { Gathers result (boxes_of_file dim (lines bytes.now)) }
+    ensures memory { IsErrOf result BoxFileError.NoMemory → HasBoxes (boxes_of_file dim) (lines bytes.now) }
 {
     let Some((first, rest)) = first_line(bytes) else {
         return Err(BoxFileError::Head);
@@ -56,28 +64,6 @@ fn read_file(alloc: Global, dim: usize, bytes: &[u8]) -> Result<Vec<BoxRow>, Box
     }
 }
 
-/// Where the first line feed stands.
-fn first_lf(text: &[u8]) -> Option<usize>
-    ensures place { result ≡ position is_lf text.now }
-    ensures below { IfSome result (λ at. at < length text.now) }
-{
-    text.iter().position(|b| *b == b'\n')
-}
-
-/// The first line, without its line feed, and what follows it.
-fn first_line(text: &[u8]) -> Option<(&[u8], &[u8])>
-    ensures line { MatchOption result (lines text.now ≡ []) (λ cut. lines text.now ≡ cut.0.now ∷ lines cut.1.now) }
-    ensures shorter { MatchOption result (length text.now ≡ 0) (λ cut. length cut.1.now < length text.now) }
-{
-    if text.is_empty() {
-        return None;
-    }
-    match first_lf(text) {
-        Some(at) => Some((&text[..at], &text[at + 1..])),
-        None => Some((text, &text[text.len()..])),
-    }
-}
-
 /// The boxes that the lines after the first state.
 fn read_lines(alloc: Global, dim: usize, text: &[u8]) -> Result<Vec<BoxRow>, BoxFileError>
     requires low { 0 < dim }
@@ -85,6 +71,7 @@ fn read_lines(alloc: Global, dim: usize, text: &[u8]) -> Result<Vec<BoxRow>, Box
     requires small { length text.now + 1 < 2 ^ 64 }
     ensures boxes { IfOk result (λ rows. All (IsBoxRow dim) rows.items) }
     ensures answer { Gathers result (boxes_of_lines dim 2 (lines text.now)) }
+    ensures memory { IsErrOf result BoxFileError.NoMemory → HasBoxes (boxes_of_lines dim 2) (lines text.now) }
 {
     let mut rows = Vec::new(alloc);
     let mut rest = text;
@@ -110,7 +97,7 @@ fn add_line(
     requires high { dim ≤ 6 }
     requires boxes { All (IsBoxRow dim) rows.old.items }
     ensures boxes { All (IsBoxRow dim) rows.new.items }
-    ensures answer { Adds result rows.old.items rows.new.items (box_of_words dim number (words (without_cr line.now))) }
+    ensures answer { Adds result rows.old.items rows.new.items (boxes_of_line dim number line.now) }
 {
     match read_line(dim, number, line) {
         Ok(None) => Ok(()),

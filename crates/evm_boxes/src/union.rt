@@ -1,9 +1,9 @@
 //! Unions of boxes.
 
-ghost use Rattle.std.specs.Prelude.{◌≡◌, ◌<◌, ◌≤◌, map, All, IfOk};
+ghost use Rattle.std.specs.Prelude.{◌≡◌, ◌<◌, ◌≤◌, length, map, All, IfOk, IsOk};
 ghost use Rattle.evm_cells.specs.Boxes.{box_cells};
 ghost use Rattle.evm_cells.specs.Vertices.{evm, cells};
-ghost use Rattle.evm_boxes.specs.Unions.{union_of};
+ghost use Rattle.evm_cells.specs.Unions.{union_of};
 ghost use Rattle.evm_boxes.specs.BoxRows.{ends_of, IsBoxRow};
 
 use super::BoxRow;
@@ -40,6 +40,7 @@ pub(crate) fn join_rows(alloc: Global, dim: usize, mut rows: Vec<BoxRow>) -> Res
     ensures dim { IfOk result (λ s. s.dim ≡ dim) }
     ensures rows { IfOk result (λ s. s.rows ≡ evm dim (union_of dim (map ends_of rows.items))) }
     ensures cells { IfOk result (λ s. cells s.dim s.rows ≡ union_of dim (map ends_of rows.items)) }
+    ensures none { length rows.items ≡ 0 → IsOk result }
 {
     rows.sort_unstable();
     let all = unite(alloc, dim, rows.as_slice())?;
@@ -53,6 +54,7 @@ fn unite(alloc: Global, dim: usize, boxes: &[BoxRow]) -> Result<Solid, NoMemory>
     requires boxes { All (IsBoxRow dim) boxes.now }
     ensures dim { IfOk result (λ s. s.dim ≡ dim) }
     ensures rows { IfOk result (λ s. s.rows ≡ evm dim (union_of dim (map ends_of boxes.now))) }
+    ensures none { length boxes.now ≡ 0 → IsOk result }
 {
     match boxes {
         [] => Ok(Solid::empty(alloc, dim)),

@@ -1,5 +1,5 @@
 -- Boxes of lines, piece by piece.
-use Rattle.std.proofs.Common.{◌≡◌, ℕ, ◌+◌, ◌*◌, Bool, true, false, cond, List, [], ◌∷◌, ◌++◌, length, take, drop, Option, Some, None, Result, Ok, Err, ℤ, refl, sym, ap, ap₂, ◌∙◌, arith, append_assoc}
+use Rattle.std.proofs.Common.{◌≡◌, ℕ, ◌+◌, ◌*◌, Bool, true, false, cond, List, [], ◌∷◌, ◌++◌, length, take, drop, Option, Some, None, Result, Ok, Err, ℤ, refl, sym, ap, ap₂, ◌∙◌, arith, append_assoc, append-nil}
 use Rattle.evm_cells.specs.Boxes.{is_box}
 use Rattle.evm_cells.specs.Unions.{Ends}
 use Rattle.evm_formats.specs.BoxFile.{is_skipped, just_numbers, box_of_numbers, boxes_of_line, boxes_of_lines, joined}
@@ -21,6 +21,10 @@ joined-joined (Ok xs) (Ok ys) (Ok zs) = ap (λ (t : List Ends). Ok t) (append_as
 pub joined-none : (a : Boxes) → joined (Ok []) a ≡ a
 joined-none (Err e) = refl
 joined-none (Ok xs) = refl
+
+pub joined-empty : (a : Boxes) → joined a (Ok []) ≡ a
+joined-empty (Err e) = refl
+joined-empty (Ok xs) = ap (λ (t : List Ends). Ok t) (append-nil xs)
 
 -- the boxes of two pieces
 pub boxes_of_lines-append : (dim k : ℕ) (xs ys : List (List ℕ)) → boxes_of_lines dim k (xs ++ ys) ≡ joined (boxes_of_lines dim k xs) (boxes_of_lines dim (k + length xs) ys)

@@ -1,7 +1,6 @@
-use Rattle.std.proofs.Common.{◌≡◌, ◌+◌, ◌≤◌, length, map, Ok, All}
+use Rattle.std.proofs.Common.{◌+◌, ◌≤◌, length, map, All}
 use Rattle.evm_boxes.specs.BoxRows.{ends_of, IsBoxRow}
-use Rattle.evm_boxes.specs.Words.{lines}
-use Rattle.evm_boxes.specs.BoxFile.{joined, boxes_of_lines}
+use Rattle.evm_boxes.proofs.FileSteps.{HasRead}
 use Rattle.evm_boxes.proofs.file.read_lines.Given as goal
 
 abbrev pub decreases-loop-line : goal.decreases-loop-line
@@ -9,7 +8,7 @@ decreases-loop-line l = length l.rest
 
 abbrev pub invariant-loop-line : goal.invariant-loop-line
 invariant-loop-line l = record {
-  so_far : joined (Ok (map ends_of l.rows.items)) (boxes_of_lines l.dim (l.number + 1) (lines l.rest)) ≡ boxes_of_lines l.dim 2 (lines l.text);
+  read : HasRead l.dim l.text l.rest l.number (map ends_of l.rows.items);
   boxes : All (IsBoxRow l.dim) l.rows.items;
   few : l.number + length l.rest ≤ length l.text + 1;
 }

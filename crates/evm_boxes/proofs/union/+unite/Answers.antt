@@ -4,9 +4,9 @@ use Rattle.evm_rows.specs.Rows.{Vertices, combined_rows}
 use Rattle.evm_boolean.specs.Tower.{fills}
 use Rattle.evm_boolean.specs.declared.boolean.Op2.TheVariants.{Or}
 use Rattle.evm_boxes.specs.BoxRows.{ends_of}
-use Rattle.evm_boxes.specs.Unions.{Ends, union_of}
+use Rattle.evm_cells.specs.Unions.{Ends, union_of}
 use Rattle.evm_boxes.specs.declared.BoxRow.{BoxRow}
-use Rattle.evm_boxes.proofs.UnionMembers.{none_united, one_or_want, united, halves}
+use Rattle.evm_boxes.proofs.UnionRows.{none_united, one_or_want, united, halves}
 use Rattle.evm_boxes.proofs.union.+unite.Goals as goal
 
 no_row : BoxRow

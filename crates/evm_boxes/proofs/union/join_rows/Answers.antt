@@ -3,9 +3,10 @@ use Rattle.std.specs.List.{All}
 use Rattle.std.proofs.lemmas.List.Sorted.{All-permutation}
 use Rattle.evm_cells.specs.Vertices.{evm}
 use Rattle.evm_boxes.specs.BoxRows.{ends_of, IsBoxRow}
-use Rattle.evm_boxes.specs.Unions.{union_of}
+use Rattle.evm_cells.specs.Unions.{union_of}
 use Rattle.evm_boxes.specs.declared.BoxRow.{BoxRow}
-use Rattle.evm_boxes.proofs.UnionMembers.{rows-permuted, union_cells}
+use Rattle.evm_cells.proofs.Unions.{union_cells}
+use Rattle.evm_boxes.proofs.UnionRows.{rows-permuted}
 use Rattle.evm_boxes.proofs.union.join_rows.Goals as goal
 
 pub unite-requires-clause-boxes : goal.unite-requires-clause-boxes
