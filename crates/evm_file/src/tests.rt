@@ -71,10 +71,15 @@ fn refuses_rows(rt: HostRuntime) {
         ),
         (
             4,
-            &[[-524_288, -1], [-524_288, 0], [524_288, -1], [524_288, 0]],
+            &[
+                [-1_073_741_824, -1],
+                [-1_073_741_824, 0],
+                [1_073_741_824, -1],
+                [1_073_741_824, 0],
+            ],
             None,
         ),
-        (2, &[[0, 0], [0, 524_289]], Some(FileError::Range(1))),
+        (2, &[[0, 0], [0, 1_073_741_825]], Some(FileError::Range(1))),
     ];
     for (count, rows, want) in table {
         let answer = refusal(rt.alloc(), count, rows).expect(&rt, "memory");
