@@ -3,75 +3,84 @@ use Rattle.std.proofs.Common.{◌≡◌, ℕ, ◌≤◌, ◌<◌, nat_le, nat_lt
 use Rattle.std.specs.Prelude.{option_map, option_and_then}
 use Rattle.std.proofs.lemmas.Bool.Decides.{nat_tests}
 use Rattle.evm_cells.specs.Limits.{limit}
-use Rattle.evm_voxels.specs.declared.error.VoxelError.TheVariants.{Magic, Header, Range}
-use Rattle.evm_voxels.specs.Header.{is_white, is_blank, is_digit, begins, after_blank, digits, after_digits, value, capped, spaced_number, Fields, ended, fields}
-use Rattle.evm_voxels.specs.Pgm.{shot, are_numbers, in_range, image_at, is_magic}
+use Rattle.evm_cells.proofs.Xor.{and_first, and_second}
+use Rattle.evm_formats.specs.declared.voxels.VoxelError.TheVariants.{Magic, Header, Range}
+use Rattle.evm_formats.specs.Header.{is_white, spaced_number, Fields, ended, maxval_and_end, height_on, fields}
+use Rattle.evm_formats.specs.Pgm.{shot, are_numbers, in_range, image_at, is_magic}
+use Rattle.evm_formats.proofs.Limits.{limit_small}
+use Rattle.evm_voxels.specs.Numbers.{word_max, capped, capped_number, capped_fields}
 
-abbrev pub cap_fields : Fields → Fields
-cap_fields f = record { width = min f.width 4294967295; height = min f.height 4294967295; maxval = min f.maxval 4294967295; rest = f.rest }
+-- ---- the numbers of a header, one after another
 
-cap_pair : ℕ × List ℕ → ℕ × List ℕ
-cap_pair p = (min p.0 4294967295, p.1)
+-- a number that was read, and what follows it
+pub record IsNext (bs : List ℕ) (number : ℕ) (rest : List ℕ) : Type 0 where
+  pub value : ℕ
+  pub there : spaced_number bs ≡ Some (value, rest)
+  pub kept : number ≡ capped value
 
--- ---- the course of the header does not depend on what its digits are read as
-number-capped : (bs : List ℕ) → spaced_number capped bs ≡ option_map cap_pair (spaced_number value bs)
-unfolding spaced_number cap_pair
-number-capped bs = at (begins is_blank bs && begins is_digit (after_blank false bs)) (digits (after_blank false bs)) (after_digits (after_blank false bs))
+pub next_is : (bs : List ℕ) (number : ℕ) (rest : List ℕ) → Some (number, rest) ≡ option_map capped_number (spaced_number bs) → IsNext bs number rest
+next_is bs number rest e = at (spaced_number bs) refl e
   where
-    at : (t : Bool) (ds rest : List ℕ) → cond {A = Option (ℕ × List ℕ)} t (Some (capped ds, rest)) None ≡ option_map cap_pair (cond {A = Option (ℕ × List ℕ)} t (Some (value ds, rest)) None)
-    at true ds rest = refl
-    at false ds rest = refl
+    at : (o : Option (ℕ × List ℕ)) → spaced_number bs ≡ o → Some (number, rest) ≡ option_map capped_number o → IsNext bs number rest
+    at None p e = absurd (cc e)
+    at (Some r) p e = record { value = r.0; there = p ∙ ap (λ (t : List ℕ). Some (r.0, t)) (sym (ap after e)); kept = ap front e }
+      where
+        front : Option (ℕ × List ℕ) → ℕ
+        front None = 0
+        front (Some q) = q.0
 
-then_map : {A B C : Type 0} (f : B → Option C) (g : A → B) (o : Option A) → option_and_then f (option_map g o) ≡ option_and_then (λ x. f (g x)) o
-then_map f g None = refl
-then_map f g (Some x) = refl
+        after : Option (ℕ × List ℕ) → List ℕ
+        after None = []
+        after (Some q) = q.1
 
-map_then : {A B C : Type 0} (k : B → C) (f : A → Option B) (o : Option A) → option_and_then (λ x. option_map k (f x)) o ≡ option_map k (option_and_then f o)
-map_then k f None = refl
-map_then k f (Some x) = refl
+none_next : (bs : List ℕ) → None ≡ option_map capped_number (spaced_number bs) → spaced_number bs ≡ None
+none_next bs e = at (spaced_number bs) e
+  where
+    at : (o : Option (ℕ × List ℕ)) → None ≡ option_map capped_number o → o ≡ None
+    at None e = refl
+    at (Some r) e = absurd (cc e)
 
-then_same : {A B : Type 0} (f g : A → Option B) → ((x : A) → f x ≡ g x) → (o : Option A) → option_and_then f o ≡ option_and_then g o
-then_same f g e None = refl
-then_same f g e (Some x) = e x
+-- what the fields come to
+came : (bs : List ℕ) (o : Option Fields) → fields bs ≡ o → option_map capped_fields o ≡ option_map capped_fields (fields bs)
+came bs o e = ap (option_map capped_fields) (sym e)
 
-ended-capped : (w h m : ℕ) (bs : List ℕ) → ended (min w 4294967295) (min h 4294967295) (min m 4294967295) bs ≡ option_map cap_fields (ended w h m bs)
+pub no_width : (bs : List ℕ) → None ≡ option_map capped_number (spaced_number bs) → None ≡ option_map capped_fields (fields bs)
+unfolding fields
+no_width bs e = came bs None (ap (option_and_then (λ (w : ℕ × List ℕ). height_on w.0 w.1)) (none_next bs e))
+
+after_width : (bs : List ℕ) (w : ℕ) (a : List ℕ) → (x : IsNext bs w a) → fields bs ≡ height_on x.value a
+unfolding fields
+after_width bs w a x = ap (option_and_then (λ (w : ℕ × List ℕ). height_on w.0 w.1)) x.there
+
+pub no_height : (bs : List ℕ) (w : ℕ) (a : List ℕ) → IsNext bs w a → None ≡ option_map capped_number (spaced_number a) → None ≡ option_map capped_fields (fields bs)
+no_height bs w a x e = came bs None (after_width bs w a x ∙ ap (option_and_then (λ (h : ℕ × List ℕ). maxval_and_end x.value h.0 h.1)) (none_next a e))
+
+after_height : (bs : List ℕ) (w h : ℕ) (a b : List ℕ) → (x : IsNext bs w a) → (y : IsNext a h b) → fields bs ≡ maxval_and_end x.value y.value b
+after_height bs w h a b x y = after_width bs w a x ∙ ap (option_and_then (λ (h : ℕ × List ℕ). maxval_and_end x.value h.0 h.1)) y.there
+
+pub no_maxval : (bs : List ℕ) (w h : ℕ) (a b : List ℕ) → IsNext bs w a → IsNext a h b → None ≡ option_map capped_number (spaced_number b) → None ≡ option_map capped_fields (fields bs)
+no_maxval bs w h a b x y e = came bs None (after_height bs w h a b x y ∙ ap (option_and_then (λ (m : ℕ × List ℕ). ended x.value y.value m.0 m.1)) (none_next b e))
+
+after_maxval : (bs : List ℕ) (w h m : ℕ) (a b c : List ℕ) → (x : IsNext bs w a) → (y : IsNext a h b) → (z : IsNext b m c) → fields bs ≡ ended x.value y.value z.value c
+after_maxval bs w h m a b c x y z = after_height bs w h a b x y ∙ ap (option_and_then (λ (m : ℕ × List ℕ). ended x.value y.value m.0 m.1)) z.there
+
+pub no_more : (bs : List ℕ) (w h m : ℕ) (a b c : List ℕ) → IsNext bs w a → IsNext a h b → IsNext b m c → c ≡ [] → None ≡ option_map capped_fields (fields bs)
 unfolding ended
-ended-capped w h m [] = refl
-ended-capped w h m (b ∷ bs) = at (is_white b)
-  where
-    at : (t : Bool) → cond {A = Option Fields} t (Some (record { width = min w 4294967295; height = min h 4294967295; maxval = min m 4294967295; rest = bs })) None ≡ option_map cap_fields (cond {A = Option Fields} t (Some (record { width = w; height = h; maxval = m; rest = bs })) None)
-    at true = refl
-    at false = refl
+no_more bs w h m a b c x y z e = came bs None (after_maxval bs w h m a b c x y z ∙ ap (ended x.value y.value z.value) e)
 
-third : (List ℕ → ℕ) → ℕ → ℕ → List ℕ → Option Fields
-third v w h bs = option_and_then (λ (m : ℕ × List ℕ). ended w h m.0 m.1) (spaced_number v bs)
+pub no_white : (bs : List ℕ) (w h m e : ℕ) (a b c rest : List ℕ) → IsNext bs w a → IsNext a h b → IsNext b m c → c ≡ e ∷ rest → is_white e ≡ false → None ≡ option_map capped_fields (fields bs)
+unfolding ended
+no_white bs w h m e a b c rest x y z p q =
+    came bs None (after_maxval bs w h m a b c x y z ∙ ap (ended x.value y.value z.value) p
+    ∙ ap (λ t. cond t (Some (record { width = x.value; height = y.value; maxval = z.value; rest = rest })) None) q)
 
-second : (List ℕ → ℕ) → ℕ → List ℕ → Option Fields
-second v w bs = option_and_then (λ (h : ℕ × List ℕ). third v w h.0 h.1) (spaced_number v bs)
-
-third-capped : (w h : ℕ) (bs : List ℕ) → third capped (min w 4294967295) (min h 4294967295) bs ≡ option_map cap_fields (third value w h bs)
-unfolding third cap_pair
-third-capped w h bs =
-    ap (option_and_then (λ (m : ℕ × List ℕ). ended (min w 4294967295) (min h 4294967295) m.0 m.1)) (number-capped bs)
-    ∙ then_map (λ (m : ℕ × List ℕ). ended (min w 4294967295) (min h 4294967295) m.0 m.1) cap_pair (spaced_number value bs)
-    ∙ then_same (λ (m : ℕ × List ℕ). ended (min w 4294967295) (min h 4294967295) (min m.0 4294967295) m.1) (λ (m : ℕ × List ℕ). option_map cap_fields (ended w h m.0 m.1)) (λ m. ended-capped w h m.0 m.1) (spaced_number value bs)
-    ∙ map_then cap_fields (λ (m : ℕ × List ℕ). ended w h m.0 m.1) (spaced_number value bs)
-
-second-capped : (w : ℕ) (bs : List ℕ) → second capped (min w 4294967295) bs ≡ option_map cap_fields (second value w bs)
-unfolding second cap_pair
-second-capped w bs =
-    ap (option_and_then (λ (h : ℕ × List ℕ). third capped (min w 4294967295) h.0 h.1)) (number-capped bs)
-    ∙ then_map (λ (h : ℕ × List ℕ). third capped (min w 4294967295) h.0 h.1) cap_pair (spaced_number value bs)
-    ∙ then_same (λ (h : ℕ × List ℕ). third capped (min w 4294967295) (min h.0 4294967295) h.1) (λ (h : ℕ × List ℕ). option_map cap_fields (third value w h.0 h.1)) (λ h. third-capped w h.0 h.1) (spaced_number value bs)
-    ∙ map_then cap_fields (λ (h : ℕ × List ℕ). third value w h.0 h.1) (spaced_number value bs)
-
-pub fields-capped : (bs : List ℕ) → fields capped bs ≡ option_map cap_fields (fields value bs)
-unfolding fields third second cap_pair
-fields-capped bs =
-    ap (option_and_then (λ (w : ℕ × List ℕ). second capped w.0 w.1)) (number-capped bs)
-    ∙ then_map (λ (w : ℕ × List ℕ). second capped w.0 w.1) cap_pair (spaced_number value bs)
-    ∙ then_same (λ (w : ℕ × List ℕ). second capped (min w.0 4294967295) w.1) (λ (w : ℕ × List ℕ). option_map cap_fields (second value w.0 w.1)) (λ w. second-capped w.0 w.1) (spaced_number value bs)
-    ∙ map_then cap_fields (λ (w : ℕ × List ℕ). second value w.0 w.1) (spaced_number value bs)
+pub all_there : (bs : List ℕ) (w h m e : ℕ) (a b c rest : List ℕ) → IsNext bs w a → IsNext a h b → IsNext b m c → c ≡ e ∷ rest → is_white e ≡ true
+    → Some (record { width = w; height = h; maxval = m; rest = rest }) ≡ option_map capped_fields (fields bs)
+unfolding ended
+all_there bs w h m e a b c rest x y z p q =
+    (λ i. Some (record { width = x.kept i; height = y.kept i; maxval = z.kept i; rest = rest }))
+    ∙ came bs (Some (record { width = x.value; height = y.value; maxval = z.value; rest = rest })) (after_maxval bs w h m a b c x y z ∙ ap (ended x.value y.value z.value) p
+    ∙ ap (λ t. cond t (Some (record { width = x.value; height = y.value; maxval = z.value; rest = rest })) None) q)
 
 -- ---- greater numbers are refused in either way
 no_numbers : (n z : ℕ) (size : Option (ℕ × ℕ)) (f : Fields) → are_numbers f.width f.height f.maxval ≡ false → shot n z size (Some f) ≡ Err Header
@@ -96,55 +105,56 @@ maxval_capped n = at (nat_le n 65535) refl
     at true e = let h : n ≤ 65535 = grind (arith, nat_tests) in let k : min n 4294967295 ≤ 65535 = omega arith in grind (arith, nat_tests)
     at false e = let h : 65535 < n = grind (arith, nat_tests) in let k : 65535 < min n 4294967295 = omega arith in grind (arith, nat_tests)
 
-size_capped : (w : ℕ) → nat_le (min w 4294967295) 524288 ≡ nat_le w 524288
-size_capped n = at (nat_le n 524288) refl
+pub size_capped : (n w : ℕ) → nat_le (capped w) (limit n) ≡ nat_le w (limit n)
+size_capped n w = at (nat_le w (limit n)) refl
   where
-    at : (b : Bool) → nat_le n 524288 ≡ b → nat_le (min n 4294967295) 524288 ≡ b
-    at true e = let h : n ≤ 524288 = grind (arith, nat_tests) in let k : min n 4294967295 ≤ 524288 = omega arith in grind (arith, nat_tests)
-    at false e = let h : 524288 < n = grind (arith, nat_tests) in let k : 524288 < min n 4294967295 = omega arith in grind (arith, nat_tests)
+    at : (b : Bool) → nat_le w (limit n) ≡ b → nat_le (capped w) (limit n) ≡ b
+    at true e = let h : w ≤ limit n = grind (arith, nat_tests) in let k : min w 4294967295 ≤ limit n = omega arith in grind (arith, nat_tests)
+    at false e = let h : limit n < w = grind (arith, nat_tests) in let k : limit n < min w 4294967295 = omega (arith, limit_small n) in grind (arith, nat_tests)
 
-numbers_capped : (f : Fields) → are_numbers (min f.width 4294967295) (min f.height 4294967295) (min f.maxval 4294967295) ≡ are_numbers f.width f.height f.maxval
+-- a size within the limit is kept as it stands
+pub size_kept : (n w : ℕ) → nat_le w (limit n) ≡ true → capped w ≡ w
+size_kept n w e = let h : w ≤ limit n = grind (arith, nat_tests) in omega (arith, limit_small n)
+
+numbers_capped : (f : Fields) → are_numbers (capped f.width) (capped f.height) (capped f.maxval) ≡ are_numbers f.width f.height f.maxval
 numbers_capped f = ap₂ (λ a b. a && b) (ap₂ (λ a b. a && b) (one_capped f.width) (one_capped f.height)) (ap₂ (λ a b. a && b) (one_capped f.maxval) (maxval_capped f.maxval))
 
-range_capped : (n z : ℕ) (f : Fields) → in_range n z (min f.width 4294967295) (min f.height 4294967295) ≡ in_range n z f.width f.height
-unfolding limit
-range_capped n z f = ap (λ a. a && nat_lt z 524288) (ap₂ (λ a b. a && b) (size_capped f.width) (size_capped f.height))
+range_capped : (n z : ℕ) (f : Fields) → in_range n z (capped f.width) (capped f.height) ≡ in_range n z f.width f.height
+range_capped n z f = ap (λ a. a && nat_lt z (limit n)) (ap₂ (λ a b. a && b) (size_capped n f.width) (size_capped n f.height))
 
--- numbers in range are as they stand
-all_small : (n z : ℕ) (f : Fields) → are_numbers f.width f.height f.maxval ≡ true → in_range n z f.width f.height ≡ true → cap_fields f ≡ f
-unfolding limit
+-- numbers in range are kept as they stand
+all_small : (n z : ℕ) (f : Fields) → are_numbers f.width f.height f.maxval ≡ true → in_range n z f.width f.height ≡ true → capped_fields f ≡ f
 all_small n z f e h =
-    let a : f.width ≤ 524288 = grind (arith, nat_tests) in
-    let b : f.height ≤ 524288 = grind (arith, nat_tests) in
+    let sizes = and_first (nat_le f.width (limit n) && nat_le f.height (limit n)) (nat_lt z (limit n)) h in
+    let p : capped f.width ≡ f.width = size_kept n f.width (and_first (nat_le f.width (limit n)) (nat_le f.height (limit n)) sizes) in
+    let q : capped f.height ≡ f.height = size_kept n f.height (and_second (nat_le f.width (limit n)) (nat_le f.height (limit n)) sizes) in
     let d : f.maxval ≤ 65535 = grind (arith, nat_tests) in
-    let p : min f.width 4294967295 ≡ f.width = omega arith in
-    let q : min f.height 4294967295 ≡ f.height = omega arith in
-    let r : min f.maxval 4294967295 ≡ f.maxval = omega arith in
+    let r : capped f.maxval ≡ f.maxval = omega arith in
     λ i. record { width = p i; height = q i; maxval = r i; rest = f.rest }
 
-shot_some : (n z : ℕ) (size : Option (ℕ × ℕ)) (f : Fields) → shot n z size (Some (cap_fields f)) ≡ shot n z size (Some f)
+shot_some : (n z : ℕ) (size : Option (ℕ × ℕ)) (f : Fields) → shot n z size (Some (capped_fields f)) ≡ shot n z size (Some f)
 shot_some n z size f = at (are_numbers f.width f.height f.maxval) (in_range n z f.width f.height) refl refl
   where
-    at : (a b : Bool) → are_numbers f.width f.height f.maxval ≡ a → in_range n z f.width f.height ≡ b → shot n z size (Some (cap_fields f)) ≡ shot n z size (Some f)
-    at false b e h = no_numbers n z size (cap_fields f) (numbers_capped f ∙ e) ∙ sym (no_numbers n z size f e)
-    at true false e h = no_range n z size (cap_fields f) (numbers_capped f ∙ e) (range_capped n z f ∙ h) ∙ sym (no_range n z size f e h)
+    at : (a b : Bool) → are_numbers f.width f.height f.maxval ≡ a → in_range n z f.width f.height ≡ b → shot n z size (Some (capped_fields f)) ≡ shot n z size (Some f)
+    at false b e h = no_numbers n z size (capped_fields f) (numbers_capped f ∙ e) ∙ sym (no_numbers n z size f e)
+    at true false e h = no_range n z size (capped_fields f) (numbers_capped f ∙ e) (range_capped n z f ∙ h) ∙ sym (no_range n z size f e h)
     at true true e h = ap (λ g. shot n z size (Some g)) (all_small n z f e h)
 
-pub shot-capped : (n z : ℕ) (size : Option (ℕ × ℕ)) (bs : List ℕ) → shot n z size (fields capped bs) ≡ shot n z size (fields value bs)
-shot-capped n z size bs = ap (shot n z size) (fields-capped bs) ∙ at (fields value bs)
+pub shot-capped : (n z : ℕ) (size : Option (ℕ × ℕ)) (bs : List ℕ) → shot n z size (option_map capped_fields (fields bs)) ≡ shot n z size (fields bs)
+shot-capped n z size bs = at (fields bs)
   where
-    at : (o : Option Fields) → shot n z size (option_map cap_fields o) ≡ shot n z size o
+    at : (o : Option Fields) → shot n z size (option_map capped_fields o) ≡ shot n z size o
     at None = ap (shot n z size) refl
     at (Some f) = shot_some n z size f
 
-pub image_is : (n z : ℕ) (size : Option (ℕ × ℕ)) (bs after : List ℕ) (o : Option Fields) → is_magic bs ≡ true → after ≡ drop 2 bs → o ≡ fields capped after → shot n z size o ≡ image_at n z size bs
+pub image_is : (n z : ℕ) (size : Option (ℕ × ℕ)) (bs after : List ℕ) (o : Option Fields) → is_magic bs ≡ true → after ≡ drop 2 bs → o ≡ option_map capped_fields (fields after) → shot n z size o ≡ image_at n z size bs
 unfolding image_at
 image_is n z size bs after o m e r =
-    ap (shot n z size) (r ∙ ap (fields capped) e) ∙ shot-capped n z size (drop 2 bs) ∙ ap (λ t. cond t (shot n z size (fields value (drop 2 bs))) (Err Magic)) (sym m)
+    ap (shot n z size) (r ∙ ap (λ t. option_map capped_fields (fields t)) e) ∙ shot-capped n z size (drop 2 bs) ∙ ap (λ t. cond t (shot n z size (fields (drop 2 bs))) (Err Magic)) (sym m)
 
 pub no_magic : (n z : ℕ) (size : Option (ℕ × ℕ)) (bs : List ℕ) → is_magic bs ≡ false → Err Magic ≡ image_at n z size bs
 unfolding image_at
-no_magic n z size bs m = ap (λ t. cond t (shot n z size (fields value (drop 2 bs))) (Err Magic)) (sym m)
+no_magic n z size bs m = ap (λ t. cond t (shot n z size (fields (drop 2 bs))) (Err Magic)) (sym m)
 
 pub no_fields : (n z : ℕ) (size : Option (ℕ × ℕ)) → Err Header ≡ shot n z size None
 unfolding shot

@@ -12,11 +12,11 @@ use Rattle.evm_rows.specs.Rows.{AreRows, rows_of, flat_of}
 use Rattle.evm_rows.proofs.Bridge.{are_rows-flat, wide-points}
 use Rattle.evm_rows.proofs.RowsOrder.{rows_of-flat_of}
 use Rattle.evm_voxels.specs.declared.grid.Grid.{Grid}
-use Rattle.evm_voxels.specs.Samples.{Picture, at_least, nat_of, in_sizes, within, of_two, of_three, image_cells, stack_cells, cells_of_images}
+use Rattle.evm_formats.specs.Images.{Picture, at_least, nat_of, in_sizes, within, of_two, of_three, in_image, in_stack, cells_of_images}
 use Rattle.evm_voxels.specs.Marks.{is_marked, marked_at}
 use Rattle.evm_voxels.specs.Grids.{filled_in, filled_flat}
 use Rattle.evm_voxels.specs.Shots.{AreMarked, words_of}
-use Rattle.evm_voxels.proofs.GridLaw.{cell_set-where}
+use Rattle.evm_cells.proofs.Combine.{cell_set-filter}
 
 -- ---- places within sizes
 
@@ -70,8 +70,8 @@ index_below : (x y w h : ℕ) → x < w → y < h → y * w + x < h * w
 index_below x y w h a b = omega (arith, mul-add-lt y w x h b a, mul_comm w h)
 
 pub stack_filled : (g : Grid) (threshold : ℕ) (images : List Picture) → length images ≡ g.depth → AreMarked g.marks.now (g.height * g.width) g.depth threshold images → g.pitch ≡ 32 * words_of (g.height * g.width)
-    → cells_where 3 (filled_in g) ≡ stack_cells threshold g.width g.height images
-unfolding filled_in stack_cells at_least marked_at
+    → cells_where 3 (filled_in g) ≡ cells_where 3 (in_stack threshold g.width g.height images)
+unfolding filled_in in_stack at_least marked_at
 stack_filled g threshold images n m p =
     ap (λ (f : List ℤ → Bool). cells_where 3 f)
     (λ i c. within_three g.width g.height g.depth (marked_at g.marks.now g.pitch g.width) (at_least threshold g.width images)
@@ -80,8 +80,8 @@ stack_filled g threshold images n m p =
 
 -- the rows of the first image
 pub image_filled : (g : Grid) (depth threshold : ℕ) (images : List Picture) → AreMarked g.marks.now (g.depth * g.width) depth threshold images → 1 ≤ depth → g.pitch ≡ g.width
-    → cells_where 2 (filled_flat g) ≡ image_cells threshold g.width g.depth images
-unfolding filled_flat image_cells at_least marked_at
+    → cells_where 2 (filled_flat g) ≡ cells_where 2 (in_image threshold g.width g.depth images)
+unfolding filled_flat in_image at_least marked_at
 image_filled g depth threshold images m some p =
     ap (λ (f : List ℤ → Bool). cells_where 2 f)
     (λ i c. within_two g.width g.depth (λ c. marked_at g.marks.now g.pitch g.width (get_or c 0 0) 0 (get_or c 1 0)) (of_two (at_least threshold g.width images))
@@ -93,17 +93,17 @@ image_filled g depth threshold images m some p =
 -- ---- the numbers of the extreme vertices are the rows of a solid
 
 pub rows_fit : (n : ℕ) (f : List ℤ → Bool) (flat : List ℤ) → 0 < n → n ≤ 6 → flat ≡ flat_of (evm n (cells_where n f)) → AreRows flat n 0
-rows_fit n f flat low high e = subst (λ (xs : List ℤ). AreRows xs n 0) (sym e) (are_rows-flat n (evm n (cells_where n f)) low high (vertices-evm n (cells_where n f) (cell_set-where n f)))
+rows_fit n f flat low high e = subst (λ (xs : List ℤ). AreRows xs n 0) (sym e) (are_rows-flat n (evm n (cells_where n f)) low high (vertices-evm n (cells_where n f) (cell_set-filter n f)))
 
 rows_are : (n : ℕ) (f : List ℤ → Bool) (flat : List ℤ) → 0 < n → flat ≡ flat_of (evm n (cells_where n f)) → rows_of flat n 0 ≡ evm n (cells_where n f)
 rows_are n f flat low e =
-    let v : IsVertexList n (evm n (cells_where n f)) = vertices-evm n (cells_where n f) (cell_set-where n f) in
+    let v : IsVertexList n (evm n (cells_where n f)) = vertices-evm n (cells_where n f) (cell_set-filter n f) in
     ap (λ (xs : List ℤ). rows_of xs n 0) e ∙ rows_of-flat_of n (evm n (cells_where n f)) low (wide-points n (evm n (cells_where n f)) v.points)
 
-of_two_dims : (n threshold w h : ℕ) (images : List Picture) → n ≡ 2 → evm 2 (image_cells threshold w h images) ≡ evm n (cells_of_images n threshold w h images)
+of_two_dims : (n threshold w h : ℕ) (images : List Picture) → n ≡ 2 → evm 2 (cells_where 2 (in_image threshold w h images)) ≡ evm n (cells_of_images n threshold w h images)
 of_two_dims n threshold w h images e = ap (λ (m : ℕ). evm m (cells_of_images m threshold w h images)) (sym e)
 
-of_three_dims : (n threshold w h : ℕ) (images : List Picture) → n ≡ 3 → evm 3 (stack_cells threshold w h images) ≡ evm n (cells_of_images n threshold w h images)
+of_three_dims : (n threshold w h : ℕ) (images : List Picture) → n ≡ 3 → evm 3 (cells_where 3 (in_stack threshold w h images)) ≡ evm n (cells_of_images n threshold w h images)
 of_three_dims n threshold w h images e = ap (λ (m : ℕ). evm m (cells_of_images m threshold w h images)) (sym e)
 
 pub stack_rows : (g : Grid) (n threshold : ℕ) (images : List Picture) (flat : List ℤ) (rows : List (List ℤ)) → n ≡ 3 → length images ≡ g.depth → AreMarked g.marks.now (g.height * g.width) g.depth threshold images

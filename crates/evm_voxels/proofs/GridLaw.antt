@@ -16,8 +16,9 @@ use Rattle.evm_cells.proofs.Lists.{all-map, all-flat_map, all_always, all_weaker
 use Rattle.evm_cells.proofs.Coords.{any-ints, rising-ints, le_yes, lt_yes, le_is, lt_is, cell_yes, point_yes, eq_is}
 use Rattle.evm_cells.proofs.Places.{ascending-rising, has-any, rising_prefixed, before_first}
 use Rattle.evm_cells.proofs.Universe.{same_sets, has-evm, has-cells, odd-around, ascending-evm, ascending-filter, ascending-every_cell, all-every_cell, absorb, cell_from, point_from}
+use Rattle.evm_cells.proofs.Combine.{cell_set-filter}
 use Rattle.evm_cells.proofs.Neighbours.{around-neighbours}
-use Rattle.evm_voxels.specs.Samples.{in_sizes}
+use Rattle.evm_formats.specs.Images.{in_sizes}
 use Rattle.evm_voxels.specs.Parity.{turns, grid}
 
 -- no place off the sizes passes
@@ -207,17 +208,6 @@ point_coords_on n (m ∷ ms) (x ∷ c) a h =
     (ap suc l, and_both (is_point_coord n x) (list_all (is_point_coord n) c) (point_yes n x (omega (arith, int_facts)) (omega (arith, int_facts))) b)
 
 -- ---- the law
-pub cell_set-where : (n : ℕ) (f : List ℤ → Bool) → IsCellSet n (cells_where n f)
-cell_set-where n f = record { ascends = ascending-filter f (every_cell n) (ascending-every_cell n); cells = kept f (every_cell n) (all-every_cell n) }
-  where
-    kept_one : (b : Bool) (x : List ℤ) (xs : List (List ℤ)) → is_cell n x ≡ true → list_all (is_cell n) xs ≡ true → list_all (is_cell n) (cond b (x ∷ xs) xs) ≡ true
-    kept_one true x xs h k = and_both (is_cell n x) (list_all (is_cell n) xs) h k
-    kept_one false x xs h k = k
-
-    kept : (g : List ℤ → Bool) (xs : List (List ℤ)) → list_all (is_cell n) xs ≡ true → list_all (is_cell n) (filter g xs) ≡ true
-    kept g [] h = refl
-    kept g (x ∷ xs) h = kept_one (g x) x (filter g xs) (and_first (is_cell n x) (list_all (is_cell n) xs) h) (kept g xs (and_second (is_cell n x) (list_all (is_cell n) xs) h))
-
 pub vertices-grid : VerticesOfGrid
 vertices-grid n ms f l a h =
     same_sets (grid ms (turns f)) (evm n (cells_where n f)) (ascending-grid ms (turns f)) (ascending-evm n (cells_where n f))
@@ -227,7 +217,7 @@ vertices-grid n ms f l a h =
     ∙ sym (has-evm n (cells_where n f) p))
   where
     cells_of : IsCellSet n (cells_where n f)
-    cells_of = cell_set-where n f
+    cells_of = cell_set-filter n f
 
     filled : (c : List ℤ) → has (cells_where n f) c ≡ f c
     filled c = has-cells n f c ∙ absorb (is_cell n c) (f c) (λ k. let (e, b) = cell_coords_in n ms c a (h c k) in cell_from n c (e ∙ l) b)

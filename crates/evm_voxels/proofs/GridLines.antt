@@ -9,7 +9,7 @@ use Rattle.evm_cells.specs.Booleans.{xor}
 use Rattle.evm_cells.proofs.Xor.{xor_swap}
 use Rattle.evm_cells.proofs.Coords.{le_yes, lt_yes, lt_no}
 use Rattle.evm_voxels.specs.declared.grid.Grid.{Grid}
-use Rattle.evm_voxels.specs.Samples.{nat_of, in_sizes, within, of_three}
+use Rattle.evm_formats.specs.Images.{nat_of, in_sizes, within, of_three}
 use Rattle.evm_voxels.specs.Parity.{turns, seam, edge}
 use Rattle.evm_voxels.specs.Marks.{bit_on, is_marked, marked_at}
 use Rattle.evm_voxels.specs.Grids.{filled_in}

@@ -8,7 +8,7 @@ use Rattle.evm_cells.proofs.Xor.{and_first, and_both}
 use Rattle.evm_cells.proofs.Coords.{le_yes}
 use Rattle.evm_rows.specs.Rows.{flat_of}
 use Rattle.evm_voxels.specs.declared.grid.Grid.{Grid}
-use Rattle.evm_voxels.specs.Samples.{nat_of, in_sizes, within, of_three}
+use Rattle.evm_formats.specs.Images.{nat_of, in_sizes, within, of_three}
 use Rattle.evm_voxels.specs.Parity.{turns, grid, seam, edge}
 use Rattle.evm_voxels.specs.Marks.{marked_at}
 use Rattle.evm_voxels.specs.Grids.{filled_in, filled_flat}

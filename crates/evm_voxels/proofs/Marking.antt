@@ -2,13 +2,13 @@
 use Rattle.std.proofs.Common.{◌≡◌, ℕ, suc, ◌+◌, ◌-◌, ◌*◌, ◌/◌, ◌%◌, ◌^◌, ◌<◌, ◌≤◌, ◌==◌, nat_lt, nat_le, nat_eq, min, Bool, true, false, ◌&&◌, ◌||◌, List, [], ◌∷◌, ◌++◌, length, take, slice_index, get_or, suc-mul, add-one, mul_assoc, mul_comm, mul-le-mul_right, refl, sym, ap, ap₂, ◌∙◌, arith, length-append, ⊎_elim}
 use Rattle.std.specs.Prelude.{bit_or}
 use Rattle.std.specs.Int.{bit_at, div_ceil}
-use Rattle.std.proofs.Math.Nat.{mul-le-mul}
+use Rattle.std.proofs.Math.Nat.{mul-le-mul_left, mul-add}
 use Rattle.std.proofs.Common.{w32}
 use Rattle.std.proofs.lemmas.Bool.{true≢false, cases_lt}
 use Rattle.std.proofs.lemmas.Bool.Decides.{nat_tests}
 use Rattle.std.proofs.lemmas.List.{take-append-le, get_or_append_left, get_or-append_right, get_or-take, take_all}
 use Rattle.std.proofs.lemmas.Nat.Bits.{bit_at-zero, bit_at_set_same, bit_at_set_other}
-use Rattle.evm_voxels.specs.Samples.{Picture, sample, no_picture}
+use Rattle.evm_formats.specs.Images.{Picture, sample, no_picture}
 use Rattle.evm_voxels.specs.Shots.{AreMarked, words_of}
 use Rattle.evm_voxels.specs.Marks.{bit_on, is_marked, HasMarks}
 
@@ -176,10 +176,16 @@ marked_more old new count z threshold images p h n k =
           (cases_lt j z);
     }
 
--- the words of all images can be counted
-pub words_fit : (d w h r : ℕ) → d ≤ 524288 → w ≤ 524288 → h ≤ 524288 → r ≡ div_ceil (h * w) 32 → d * r < 2 ^ 64
-words_fit d w h r a b c e =
-    let p : h * w ≤ 524288 * 524288 = mul-le-mul c b in
-    let q : r ≤ 17179869184 = omega (arith, e, p) in
-    let s : d * r ≤ 524288 * 17179869184 = mul-le-mul a q in
-    omega (arith, s)
+-- the words of all images can be counted where their samples can
+pub words_fit : (d count r : ℕ) → d * count < 2 ^ 63 → r ≡ div_ceil count 32 → d * r < 2 ^ 64
+words_fit d count r a e =
+    let p : r ≤ count = omega (arith, e) in
+    let q : d * r ≤ d * count = mul-le-mul_left d p in
+    omega (arith, q, a)
+
+-- and so can the places of their marks
+pub pitch_fits : (d count r : ℕ) → d * count < 2 ^ 63 → d ≤ 2 ^ 30 → r ≡ div_ceil count 32 → d * (32 * r) < 2 ^ 64
+pitch_fits d count r a b e =
+    let p : 32 * r ≤ count + 31 = omega (arith, e) in
+    let q : d * (32 * r) ≤ d * (count + 31) = mul-le-mul_left d p in
+    omega (arith, q, mul-add d count 31, a, b)

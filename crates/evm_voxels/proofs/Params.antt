@@ -4,12 +4,14 @@ use Rattle.std.specs.Prelude.{option_map}
 use Rattle.std.specs.List.{list_all, slice_split, onto_first}
 use Rattle.std.proofs.lemmas.Bool.Decides.{nat_tests}
 use Rattle.std.proofs.lemmas.List.{drop_all, take_more}
-use Rattle.evm_voxels.specs.Header.{is_digit, digits, after_digits, value, capped}
+use Rattle.evm_text.specs.Numbers.{is_digit, digits_value}
+use Rattle.evm_formats.specs.Header.{digits, after_digits}
+use Rattle.evm_voxels.specs.Numbers.{capped}
 use denote.Ref.{Bor}
 use Rattle.evm_voxels.specs.declared.stream.Found.{Found}
 use Rattle.evm_voxels.specs.declared.stream.Found.TheVariants.{Once, Often}
 use Rattle.evm_voxels.specs.Streams.{Shows}
-use Rattle.evm_voxels.specs.Y4m.{cut_at, value_of, values, number_of, only_number}
+use Rattle.evm_formats.specs.Y4m.{cut_at, value_of, values, number_of, only_number}
 
 -- ---- bytes cut at a byte
 
@@ -180,28 +182,28 @@ not_all (d ∷ ds) l = at (is_digit d) refl (not_all ds) l
 
 -- the number as far as 32 bits go
 abbrev pub cap : Option ℕ → Option ℕ
-cap o = option_map (λ v. min v 4294967295) o
+cap o = option_map capped o
 
-told : (a b c : Bool) (ds : List ℕ) → nat_le 1 (length ds) ≡ a → list_all is_digit ds ≡ b → nat_le 1 (value ds) ≡ c → cap (number_of ds) ≡ cap (cond (a && (b && c)) (Some (value ds)) None)
-told a b c ds p q r = ap (λ t. cap (cond t (Some (value ds)) None)) (ap₂ (λ s t. s && t) p (ap₂ (λ s t. s && t) q r))
+told : (a b c : Bool) (ds : List ℕ) → nat_le 1 (length ds) ≡ a → list_all is_digit ds ≡ b → nat_le 1 (digits_value ds) ≡ c → cap (number_of ds) ≡ cap (cond (a && (b && c)) (Some (digits_value ds)) None)
+told a b c ds p q r = ap (λ t. cap (cond t (Some (digits_value ds)) None)) (ap₂ (λ s t. s && t) p (ap₂ (λ s t. s && t) q r))
 
 pub number_none : (ds : List ℕ) → length ds ≤ 0 → None ≡ cap (number_of ds)
-number_none ds l = sym (told false (list_all is_digit ds) (nat_le 1 (value ds)) ds (let e : nat_le 1 (length ds) ≡ false = grind (arith, nat_tests) in e) refl refl)
+number_none ds l = sym (told false (list_all is_digit ds) (nat_le 1 (digits_value ds)) ds (let e : nat_le 1 (length ds) ≡ false = grind (arith, nat_tests) in e) refl refl)
 
 pub number_other : (ds : List ℕ) → 0 < length (after_digits ds) → None ≡ cap (number_of ds)
-number_other ds l = sym (ap (λ t. cap (cond t (Some (value ds)) None)) (ap (λ t. nat_le 1 (length ds) && (t && nat_le 1 (value ds))) (not_all ds l) ∙ no_and (nat_le 1 (length ds))))
+number_other ds l = sym (ap (λ t. cap (cond t (Some (digits_value ds)) None)) (ap (λ t. nat_le 1 (length ds) && (t && nat_le 1 (digits_value ds))) (not_all ds l) ∙ no_and (nat_le 1 (length ds))))
   where
     no_and : (a : Bool) → (a && false) ≡ false
     no_and true = refl
     no_and false = refl
 
-pub number_zero : (ds after : List ℕ) (v : ℕ) → after ≡ after_digits ds → length after ≤ 0 → v ≡ capped (digits ds) → v ≡ 0 → None ≡ cap (number_of ds)
+pub number_zero : (ds after : List ℕ) (v : ℕ) → after ≡ after_digits ds → length after ≤ 0 → v ≡ capped (digits_value (digits ds)) → v ≡ 0 → None ≡ cap (number_of ds)
 number_zero ds after v e l c z =
     let none : after_digits ds ≡ [] = empty (after_digits ds) (let q : length (after_digits ds) ≤ 0 = omega (arith, ap (λ (t : List ℕ). length t) e) in q) in
     let same : digits ds ≡ ds = (digits_all ds none).1 in
-    let zero_is : value ds ≡ 0 = let k : min (value ds) 4294967295 ≡ 0 = ap (λ (t : List ℕ). capped t) (sym same) ∙ sym c ∙ z in omega arith in
-    let test : nat_le 1 (value ds) ≡ false = grind (arith, nat_tests) in
-    sym (ap (λ t. cap (cond t (Some (value ds)) None)) (ap (λ t. nat_le 1 (length ds) && (list_all is_digit ds && t)) test ∙ no_last (nat_le 1 (length ds)) (list_all is_digit ds)))
+    let zero_is : digits_value ds ≡ 0 = let k : min (digits_value ds) 4294967295 ≡ 0 = ap (λ (t : List ℕ). capped (digits_value t)) (sym same) ∙ sym c ∙ z in omega arith in
+    let test : nat_le 1 (digits_value ds) ≡ false = grind (arith, nat_tests) in
+    sym (ap (λ t. cap (cond t (Some (digits_value ds)) None)) (ap (λ t. nat_le 1 (length ds) && (list_all is_digit ds && t)) test ∙ no_last (nat_le 1 (length ds)) (list_all is_digit ds)))
   where
     no_last : (a b : Bool) → (a && (b && false)) ≡ false
     no_last true true = refl
@@ -212,13 +214,13 @@ number_zero ds after v e l c z =
     empty [] l = refl
     empty (x ∷ xs) l = absurd (omega arith)
 
-pub number_some : (ds after : List ℕ) (v : ℕ) → 0 < length ds → after ≡ after_digits ds → length after ≤ 0 → v ≡ capped (digits ds) → (v ≡ 0 → ⊥) → Some v ≡ cap (number_of ds)
+pub number_some : (ds after : List ℕ) (v : ℕ) → 0 < length ds → after ≡ after_digits ds → length after ≤ 0 → v ≡ capped (digits_value (digits ds)) → (v ≡ 0 → ⊥) → Some v ≡ cap (number_of ds)
 number_some ds after v some e l c z =
     let none : after_digits ds ≡ [] = empty (after_digits ds) (let q : length (after_digits ds) ≤ 0 = omega (arith, ap (λ (t : List ℕ). length t) e) in q) in
     let (all, same) = digits_all ds none in
-    let is : v ≡ min (value ds) 4294967295 = c ∙ ap (λ (t : List ℕ). capped t) same in
-    let one : 1 ≤ value ds = omega arith in
-    sym (told true true true ds (let e : nat_le 1 (length ds) ≡ true = grind (arith, nat_tests) in e) all (let e : nat_le 1 (value ds) ≡ true = grind (arith, nat_tests) in e) ∙ ap (λ (n : ℕ). Some n) (sym is))
+    let is : v ≡ min (digits_value ds) 4294967295 = c ∙ ap (λ (t : List ℕ). capped (digits_value t)) same in
+    let one : 1 ≤ digits_value ds = omega arith in
+    sym (told true true true ds (let e : nat_le 1 (length ds) ≡ true = grind (arith, nat_tests) in e) all (let e : nat_le 1 (digits_value ds) ≡ true = grind (arith, nat_tests) in e) ∙ ap (λ (n : ℕ). Some n) (sym is))
   where
     empty : (xs : List ℕ) → length xs ≤ 0 → xs ≡ []
     empty [] l = refl

@@ -3,7 +3,8 @@ use Rattle.std.proofs.Common.{◌≡◌, ℕ, suc, ◌+◌, ◌-◌, ◌*◌, �
 use Rattle.std.proofs.Math.Nat.{pow-succ', add-mul, one-le-pow}
 use Rattle.std.proofs.lemmas.Bool.{cases_lt}
 use Rattle.std.proofs.lemmas.Bool.{true≢false, false≢true}
-use Rattle.evm_voxels.specs.Header.{is_white, is_digit, is_blank, is_end, after_blank, digits, after_digits, value}
+use Rattle.evm_text.specs.Numbers.{is_digit, digits_value}
+use Rattle.evm_formats.specs.Header.{is_white, is_blank, is_end, after_blank, digits, after_digits}
 
 blank_at : (w h i : Bool) (b : ℕ) (later whole : List ℕ) → (b == 35) ≡ h → is_white b ≡ w → after_blank i (b ∷ later) ≡ whole → (not i && not (w || h)) ≡ false → after_blank (cond i (not (is_end b)) (not w && h)) later ≡ whole
 unfolding after_blank
@@ -72,34 +73,32 @@ pub rest_over : (rest whole : List ℕ) → rest ≡ [] → after_digits rest �
 unfolding after_digits
 rest_over rest whole r e = r ∙ ap after_digits (sym r) ∙ e
 
-no_digits : (v w : ℕ) (ds : List ℕ) → ds ≡ [] → v ≤ 4294967295 → min (v * 10 ^ length ds + value ds) 4294967295 ≡ w → v ≡ w
-unfolding value
-no_digits v w ds r l e = (let z : v ≡ min (v * 1 + 0) 4294967295 = omega arith in z) ∙ ap (λ (t : List ℕ). min (v * 10 ^ length t + value t) 4294967295) (sym r) ∙ e
+no_digits : (v w : ℕ) (ds : List ℕ) → ds ≡ [] → v ≤ 4294967295 → min (v * 10 ^ length ds + digits_value ds) 4294967295 ≡ w → v ≡ w
+no_digits v w ds r l e = (let z : v ≡ min (v * 1 + 0) 4294967295 = omega arith in z) ∙ ap (λ (t : List ℕ). min (v * 10 ^ length t + digits_value t) 4294967295) (sym r) ∙ e
 
-pub number_found : (v b : ℕ) (rest later : List ℕ) (w : ℕ) → rest ≡ b ∷ later → is_digit b ≡ false → v ≤ 4294967295 → min (v * 10 ^ length (digits rest) + value (digits rest)) 4294967295 ≡ w → v ≡ w
+pub number_found : (v b : ℕ) (rest later : List ℕ) (w : ℕ) → rest ≡ b ∷ later → is_digit b ≡ false → v ≤ 4294967295 → min (v * 10 ^ length (digits rest) + digits_value (digits rest)) 4294967295 ≡ w → v ≡ w
 number_found v b rest later w r t l e = no_digits v w (digits rest) (ap digits r ∙ digits_at false b later t) l e
 
-pub number_over : (v : ℕ) (rest : List ℕ) (w : ℕ) → rest ≡ [] → v ≤ 4294967295 → min (v * 10 ^ length (digits rest) + value (digits rest)) 4294967295 ≡ w → v ≡ w
+pub number_over : (v : ℕ) (rest : List ℕ) (w : ℕ) → rest ≡ [] → v ≤ 4294967295 → min (v * 10 ^ length (digits rest) + digits_value (digits rest)) 4294967295 ≡ w → v ≡ w
 unfolding digits
 number_over v rest w r l e = no_digits v w (digits rest) (ap digits r) l e
 
-one_digit : (v b : ℕ) (ds : List ℕ) → (v * 10 + (b - 48)) * 10 ^ length ds + value ds ≡ v * 10 ^ length (b ∷ ds) + value (b ∷ ds)
-unfolding value
+one_digit : (v b : ℕ) (ds : List ℕ) → (v * 10 + (b - 48)) * 10 ^ length ds + digits_value ds ≡ v * 10 ^ length (b ∷ ds) + digits_value (b ∷ ds)
 one_digit v b ds =
     let p : ℕ = 10 ^ length ds in
     let q : 10 ^ suc (length ds) ≡ 10 * 10 ^ length ds = pow-succ' 10 (length ds) in
-    ap (λ (z : ℕ). z + value ds) (add-mul (v * 10) (b - 48) (10 ^ length ds) ∙ ap (λ (z : ℕ). z + (b - 48) * 10 ^ length ds) (mul_assoc v 10 (10 ^ length ds) ∙ ap (λ (z : ℕ). v * z) (sym q)))
-    ∙ add_assoc (v * 10 ^ suc (length ds)) ((b - 48) * 10 ^ length ds) (value ds)
+    ap (λ (z : ℕ). z + digits_value ds) (add-mul (v * 10) (b - 48) (10 ^ length ds) ∙ ap (λ (z : ℕ). z + (b - 48) * 10 ^ length ds) (mul_assoc v 10 (10 ^ length ds) ∙ ap (λ (z : ℕ). v * z) (sym q)))
+    ∙ add_assoc (v * 10 ^ suc (length ds)) ((b - 48) * 10 ^ length ds) (digits_value ds)
 
 saturated : (v d u m : ℕ) → u ≡ min (v * 10) m → min (u + d) m ≡ min (v * 10 + d) m
 saturated v d u m e = omega arith
 
 pub number_next : (v u new b : ℕ) (rest later : List ℕ) (w : ℕ) → rest ≡ b ∷ later → is_digit b ≡ true → u ≡ min (v * 10) 4294967295 → new ≡ min (u + (b - 48)) 4294967295
-    → min (v * 10 ^ length (digits rest) + value (digits rest)) 4294967295 ≡ w → min (new * 10 ^ length (digits later) + value (digits later)) 4294967295 ≡ w
+    → min (v * 10 ^ length (digits rest) + digits_value (digits rest)) 4294967295 ≡ w → min (new * 10 ^ length (digits later) + digits_value (digits later)) 4294967295 ≡ w
 number_next v u new b rest later w r t a n e =
     let ds : List ℕ = digits later in
-    ap (λ (z : ℕ). min (z * 10 ^ length (digits later) + value (digits later)) 4294967295) (n ∙ saturated v (b - 48) u 4294967295 a)
-    ∙ capped_twice (v * 10 + (b - 48)) (10 ^ length (digits later)) (value (digits later)) 4294967295 (one-le-pow (length (digits later)) 10 (omega arith))
+    ap (λ (z : ℕ). min (z * 10 ^ length (digits later) + digits_value (digits later)) 4294967295) (n ∙ saturated v (b - 48) u 4294967295 a)
+    ∙ capped_twice (v * 10 + (b - 48)) (10 ^ length (digits later)) (digits_value (digits later)) 4294967295 (one-le-pow (length (digits later)) 10 (omega arith))
     ∙ ap (λ (z : ℕ). min z 4294967295) (one_digit v b (digits later))
-    ∙ ap (λ (t : List ℕ). min (v * 10 ^ length t + value t) 4294967295) (sym (ap digits r ∙ digits_at true b later t))
+    ∙ ap (λ (t : List ℕ). min (v * 10 ^ length t + digits_value t) 4294967295) (sym (ap digits r ∙ digits_at true b later t))
     ∙ e

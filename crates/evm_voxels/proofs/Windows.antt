@@ -10,7 +10,7 @@ use Rattle.std.proofs.lemmas.Nat.Bits.{bit_at-suc, bit_at_xor, bit_at-lt, bit_at
 use Rattle.std.proofs.Math.Nat.{div-div-eq-div-mul, mod-lt, mod-eq_of_lt, pow-le-pow_right, one-le-pow, one-mul}
 use Rattle.evm_cells.specs.Booleans.{xor}
 use Rattle.evm_voxels.specs.declared.grid.Grid.{Grid}
-use Rattle.evm_voxels.specs.Samples.{in_sizes, within}
+use Rattle.evm_formats.specs.Images.{in_sizes, within}
 use Rattle.evm_voxels.specs.Parity.{seam}
 use Rattle.evm_voxels.specs.Marks.{bit_on, is_marked, marked_at}
 use Rattle.evm_voxels.specs.Grids.{filled_in}

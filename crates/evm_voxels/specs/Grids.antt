@@ -1,7 +1,7 @@
 -- Which places of a grid of marks are filled.
 use Rattle.std.specs.Prelude.{List, [], ◌∷◌, Bool, ℤ, get_or}
 use Rattle.evm_voxels.specs.declared.grid.Grid.{Grid}
-use Rattle.evm_voxels.specs.Samples.{within, of_three}
+use Rattle.evm_formats.specs.Images.{within, of_three}
 use Rattle.evm_voxels.specs.Marks.{marked_at}
 
 -- a place (x, y, z) within the sizes is filled where its mark is set

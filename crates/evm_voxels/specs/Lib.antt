@@ -1,7 +1,4 @@
-pub mod Samples
-pub mod Header
-pub mod Pgm
-pub mod Y4m
+pub mod Numbers
 pub mod Parity
 pub mod Marks
 pub mod Shots

@@ -1,14 +1,19 @@
 -- What a clause sees of an image that was read, and of the marks of images.
-use Rattle.std.specs.Prelude.{◌≡◌, ℕ, ◌+◌, ◌*◌, ◌/◌, ◌<◌, nat_le, List, ◌∷◌, length, get_or, Ok}
+use Rattle.std.specs.Prelude.{◌≡◌, ℕ, ◌+◌, ◌*◌, ◌/◌, ◌<◌, nat_le, List, length, get_or, None, Ok}
+use Rattle.evm_voxels.specs.declared.header.Fields as read_fields
 use Rattle.evm_voxels.specs.declared.image.Image.{Image}
 use Rattle.evm_voxels.specs.declared.image.Size.{Size}
 use Rattle.evm_voxels.specs.declared.image.Shot as declared
-use Rattle.evm_voxels.specs.Samples.{Picture, sample, no_picture}
+use Rattle.evm_formats.specs.Images.{Picture, sample, no_picture}
 use Rattle.evm_voxels.specs.Marks.{is_marked}
-use Rattle.evm_voxels.specs.Pgm.{Shot, images_of}
+use Rattle.evm_formats.specs.Header.{Fields}
+use Rattle.evm_formats.specs.Pgm.{Shot, image_at, images_from}
 
 abbrev pub picture_of : Image → Picture
 picture_of i = record { bytes = i.bytes.now; wide = i.wide }
+
+abbrev pub fields_read : read_fields.Fields → Fields
+fields_read f = record { width = f.width; height = f.height; maxval = f.maxval; rest = f.rest.now }
 
 abbrev pub pair_of : Size → ℕ × ℕ
 pair_of s = (s.width, s.height)
@@ -26,5 +31,11 @@ pub record AreMarked (marks : List ℕ) (count z threshold : ℕ) (images : List
   pub marked : (j i : ℕ) → j < z → i < count → is_marked marks (j * (32 * words_of count) + i) ≡ nat_le threshold (sample (get_or images j no_picture) i)
 
 -- the file states this many images, the first of this size
-abbrev pub IsStack : ℕ → List ℕ → Size → ℕ → Type 0
-IsStack n bs size depth = (s : Shot) × (ss : List Shot) × (images_of n bs ≡ Ok (s ∷ ss)) × (length (s ∷ ss) ≡ depth) × (s.width ≡ size.width) × (s.height ≡ size.height)
+pub record IsStack (n : ℕ) (bs : List ℕ) (size : Size) (depth : ℕ) : Type 0 where
+  pub first : Shot
+  pub images : List Picture
+  pub begins : image_at n 0 None bs ≡ Ok first
+  pub goes_on : images_from n first ≡ Ok images
+  pub count : length images ≡ depth
+  pub width : first.width ≡ size.width
+  pub height : first.height ≡ size.height

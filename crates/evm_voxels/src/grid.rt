@@ -1,5 +1,5 @@
 // A grid of places, whose filled ones are marked by bits.
-ghost use Rattle.std.specs.Prelude.{◌≡◌, ◌*◌, ◌≤◌, ◌^◌, length};
+ghost use Rattle.std.specs.Prelude.{◌≡◌, ◌*◌, ◌<◌, ◌≤◌, ◌^◌, length};
 
 /// The places (x, y, z) from 0 up to, but not at, three sizes. Bit i of word j of the marks is mark `32 j + i`. The mark of
 /// (x, y, z) is `z pitch + y width + x`, and it is set where the place is filled.
@@ -20,7 +20,7 @@ pub struct Grid<'a> {
     pub ghost flat: { depth ≤ 2 ^ 30 },
     pub ghost apart: { height * width ≤ pitch },
     pub ghost room: { depth * pitch ≤ 32 * length marks.now },
-    pub ghost small: { depth * pitch ≤ 2 ^ 62 },
+    pub ghost small: { depth * pitch < 2 ^ 64 },
 }
 
 impl Grid<'_> {

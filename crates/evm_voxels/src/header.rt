@@ -1,6 +1,9 @@
 // The header of an image of a PGM stack.
 ghost use Rattle.std.specs.Prelude.{◌≡◌, option_map, ◌&&◌, not, cond, false, ◌==◌, MatchOption, [], ◌∷◌};
-ghost use Rattle.evm_voxels.specs.Header.{is_white, is_digit, is_blank, is_end, begins, after_blank, digits, after_digits, capped, spaced_number, fields as fields_of};
+ghost use Rattle.evm_text.specs.Numbers.{is_digit, digits_value};
+ghost use Rattle.evm_formats.specs.Header.{is_white, is_blank, is_end, begins, after_blank, digits, after_digits, spaced_number, fields as fields_of};
+ghost use Rattle.evm_voxels.specs.Numbers.{capped, capped_number, capped_fields};
+ghost use Rattle.evm_voxels.specs.Shots.{fields_read};
 
 /// The numbers of a header, those past 32 bits as the greatest of 32 bits, and the bytes after it.
 #[derive(Clone, Copy)]
@@ -72,7 +75,7 @@ fn skip_blank(bytes: &[u8]) -> &[u8]
 
 /// The value of the digits in front, and what follows them.
 pub fn number(bytes: &[u8]) -> (u32, &[u8])
-    ensures value { result.0 ≡ capped (digits bytes.now) }
+    ensures value { result.0 ≡ capped (digits_value (digits bytes.now)) }
     ensures rest { result.1.now ≡ after_digits bytes.now }
 {
     let mut rest = bytes;
@@ -108,9 +111,9 @@ pub fn begins_digit(bytes: &[u8]) -> bool
 }
 
 // A separator and a number.
-#[tactic(auto, unfolding(crate::specs::Header::spaced_number))]
+#[tactic(auto, unfolding(evm_formats::specs::Header::spaced_number))]
 fn next_number(bytes: &[u8]) -> Option<(u32, &[u8])>
-    ensures { option_map (λ r. (r.0, r.1.now)) result ≡ spaced_number capped bytes.now }
+    ensures { option_map (λ r. (r.0, r.1.now)) result ≡ option_map capped_number (spaced_number bytes.now) }
 {
     if !begins_blank(bytes) {
         return None;
@@ -123,9 +126,8 @@ fn next_number(bytes: &[u8]) -> Option<(u32, &[u8])>
 }
 
 /// The numbers after the magic, up to the single white space byte after them.
-#[tactic(auto, unfolding(crate::specs::Header::fields, crate::specs::Header::ended))]
 pub fn read_fields(bytes: &[u8]) -> Option<Fields<'_>>
-    ensures { option_map (λ f. record { width = f.width; height = f.height; maxval = f.maxval; rest = f.rest.now }) result ≡ fields_of capped bytes.now }
+    ensures { option_map fields_read result ≡ option_map capped_fields (fields_of bytes.now) }
 {
     let (width, rest) = next_number(bytes)?;
     let (height, rest) = next_number(rest)?;

@@ -1,29 +1,6 @@
 //! Voxel files: stacks of PGM images and Y4M mask videos, as the extreme vertices of the cells that their samples fill.
 //!
-//! The sample in column x and row y of image z, all counted from 0, is the cell `(x, y)` in dimension 2 and `(x, y, z)` in
-//! dimension 3. It is filled exactly if the sample is at least the threshold; a sample above the maxval is compared as it
-//! stands. Both formats are this project's own profiles.
-//!
-//! # PGM stacks
-//!
-//! A file holds one image in dimension 2, and one or more of one size in dimension 3. An image is the letters `P5`; a
-//! separator, the width, a separator, the height, a separator, the maxval; a single white space byte; and the samples, rows
-//! from the top and each from left to right, of one byte where the maxval is below 256 and otherwise of two, the most
-//! significant first. A separator is one or more white space bytes (space, TAB, LF, VT, FF, CR) and comments, and a comment
-//! goes from `#` up to the next LF or CR. Numbers are decimal digits of any length. White space after an image is skipped.
-//!
-//! # Y4M streams
-//!
-//! A stream is a line of `YUV4MPEG2` and parameters, each after one space, and then frames. `W` and `H` stand exactly once,
-//! `C` at most once, and other parameters are skipped. A frame is `FRAME`, then LF or a space and any bytes up to LF, and
-//! its planes, luma first, of one byte a sample. Dimension 2 takes one frame, dimension 3 any number.
-//!
-//! | value of `C` | bytes after a luma plane of w times h samples |
-//! |---|---|
-//! | none, `420`, `420jpeg`, `420paldv`, `420mpeg2` | 2 times (w+1)/2 times (h+1)/2, halves rounded down |
-//! | `422` | 2 times (w+1)/2 times h, halves rounded down |
-//! | `444` | 2 times w times h |
-//! | `mono` | 0 |
+//! What the bytes state stands in `evm_formats`; here they are read.
 //!
 //! # How vertices are made
 //!
@@ -35,13 +12,12 @@
 ghost use Rattle.std.specs.Prelude.{◌≡◌, ◌≢◌, ◌↔◌, ◌⊎◌, ◌≤◌, List, ℤ, Ok, Err, IfOk, IsErrOf, IsOkAnd};
 ghost use Rattle.evm_cells.specs.Vertices.{evm};
 ghost use Rattle.evm_rows.specs.Rows.{cells_of};
-ghost use Rattle.evm_voxels.specs.declared.error.VoxelError.{VoxelError};
-ghost use Rattle.evm_voxels.specs.declared.error.VoxelError.TheVariants.{Kind, NoMemory};
-ghost use Rattle.evm_voxels.specs.Pgm.{pgm_cells};
-ghost use Rattle.evm_voxels.specs.Y4m.{y4m_cells};
+ghost use Rattle.evm_formats.specs.declared.voxels.VoxelError.{VoxelError};
+ghost use Rattle.evm_formats.specs.declared.voxels.VoxelError.TheVariants.{Kind, NoMemory};
+ghost use Rattle.evm_formats.specs.Pgm.{pgm_cells};
+ghost use Rattle.evm_formats.specs.Y4m.{y4m_cells};
 
 mod blocks;
-mod error;
 mod grid;
 mod header;
 mod image;
@@ -53,7 +29,7 @@ mod stream;
 mod vertices;
 mod y4m;
 
-pub use error::VoxelError;
+pub use evm_formats::VoxelError;
 use evm_rows::Solid;
 use std::alloc::Global;
 

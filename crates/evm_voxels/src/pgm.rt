@@ -1,18 +1,17 @@
 // Stacks of PGM images.
 ghost use Rattle.std.specs.Prelude.{◌≡◌, ℕ, List, ◌⊎◌, ◌+◌, ◌*◌, ◌<◌, ◌≤◌, ◌^◌, false, length, ◌∷◌, option_map, Option, Some, Ok, Err, IfOk, IfErr, IfSome};
 ghost use Rattle.evm_cells.specs.Limits.{limit};
-ghost use Rattle.evm_voxels.specs.declared.error.VoxelError.TheVariants.{NoMemory};
-ghost use Rattle.evm_voxels.specs.Samples.{bytes_of};
-ghost use Rattle.evm_voxels.specs.Header.{is_white, begins};
+ghost use Rattle.evm_formats.specs.declared.voxels.VoxelError.TheVariants.{NoMemory};
+ghost use Rattle.evm_formats.specs.Images.{Picture, bytes_of, map_ok};
 ghost use Rattle.evm_voxels.specs.Outcomes.{Answers};
-ghost use Rattle.evm_voxels.specs.Shots.{picture_of, pair_of, shot_of as shown, IsStack, AreMarked};
-ghost use Rattle.evm_voxels.specs.Pgm.{Shot as ShotOf, is_magic, is_shape, are_numbers, in_range, shot, image_at, map_ok, later_images, images_of, pictures, pgm_cells};
+ghost use Rattle.evm_voxels.specs.Shots.{fields_read, pair_of, shot_of as shown, IsStack, AreMarked};
+ghost use Rattle.evm_formats.specs.Pgm.{Shot as ShotOf, is_magic, is_shape, are_numbers, in_range, shot, image_at, after_white, images_from, pgm_cells};
 
-use crate::error::VoxelError;
 use crate::header::{Fields, first_byte, is_white, read_fields};
 use crate::image::{Extent, Image, Shot, Size};
 use crate::samples::mark_image;
 use crate::solid::solid_of;
+use evm_formats::VoxelError;
 use evm_rows::{Solid, limit};
 use std::alloc::Global;
 
@@ -62,7 +61,7 @@ fn sample_bytes(wide: bool, samples: usize) -> usize
 }
 
 // The image with these fields.
-#[tactic(auto, unfolding(crate::specs::Pgm::shot, evm_cells::specs::Limits::limit))]
+#[tactic(auto, unfolding(evm_formats::specs::Pgm::shot, evm_cells::specs::Limits::limit))]
 fn shot_of<'a>(
     dim: usize,
     number: usize,
@@ -70,7 +69,7 @@ fn shot_of<'a>(
     fields: Fields<'a>,
 ) -> Result<Shot<'a>, VoxelError>
     requires { (dim ≡ 2) ⊎ (dim ≡ 3) }
-    ensures exact { map_ok shown result ≡ shot dim number (option_map pair_of first) (Some (record { width = fields.entry.width; height = fields.entry.height; maxval = fields.entry.maxval; rest = fields.entry.rest.now })) }
+    ensures exact { map_ok shown result ≡ shot dim number (option_map pair_of first) (Some (fields_read fields.entry)) }
     ensures room { IfOk result (λ s. bytes_of s.image.wide (s.size.height * s.size.width) ≡ length s.image.bytes.now) }
     ensures width { IfOk result (λ s. s.size.width ≤ limit dim) }
     ensures height { IfOk result (λ s. s.size.height ≤ limit dim) }
@@ -132,9 +131,7 @@ pub fn read_image(
 
 // What follows the white space in front.
 fn skip_white(bytes: &[u8]) -> &[u8]
-    ensures same { (n z : ℕ) → (size : ℕ × ℕ) → later_images n z size 0 result.now ≡ later_images n z size 0 bytes.now }
-    ensures front { begins is_white result.now ≡ false }
-    ensures short { length result.now ≤ length bytes.now }
+    ensures { result.now ≡ after_white bytes.now }
 {
     let mut rest = bytes;
     while let Some((b, later)) = first_byte(rest) {
@@ -150,10 +147,11 @@ fn skip_white(bytes: &[u8]) -> &[u8]
 pub fn measure(dim: usize, bytes: &[u8]) -> Result<Extent, VoxelError>
     requires { (dim ≡ 2) ⊎ (dim ≡ 3) }
     ensures stack { IfOk result (λ s. IsStack dim bytes.now s.size s.depth) }
-    ensures refused { IfErr result (λ e. images_of dim bytes.now ≡ Err e) }
+    ensures refused { IfErr result (λ e. (threshold : ℕ) → pgm_cells dim threshold bytes.now ≡ Err e) }
     ensures width { IfOk result (λ s. s.size.width ≤ limit dim) }
     ensures height { IfOk result (λ s. s.size.height ≤ limit dim) }
     ensures depth { IfOk result (λ s. s.depth ≤ limit dim) }
+    ensures room { IfOk result (λ s. s.depth * (s.size.height * s.size.width) ≤ length bytes.now) }
 {
     let first = read_image(dim, 0, None, bytes)?;
     let mut depth = 1;
@@ -181,8 +179,10 @@ pub fn mark(
 ) -> Result<Vec<u32>, VoxelError>
     requires dim { (dim ≡ 2) ⊎ (dim ≡ 3) }
     requires depth { depth ≤ limit dim }
-    ensures marked { IfOk result (λ v. (s : ShotOf) (ss : List ShotOf) → images_of dim bytes.now ≡ Ok (s ∷ ss) → AreMarked v.items (s.height * s.width) (length (s ∷ ss)) threshold (pictures (s ∷ ss))) }
-    ensures refused { IfErr result (λ e. (e ≡ NoMemory) ⊎ (images_of dim bytes.now ≡ Err e)) }
+    requires room { (s : ShotOf) → image_at dim 0 None bytes.now ≡ Ok s → depth * (s.height * s.width) < 2 ^ 63 }
+    ensures marked { IfOk result (λ v. (s : ShotOf) (ps : List Picture) → image_at dim 0 None bytes.now ≡ Ok s → images_from dim s ≡ Ok ps
+        → AreMarked v.items (s.height * s.width) (length ps) threshold ps) }
+    ensures refused { IfErr result (λ e. (e ≡ NoMemory) ⊎ ((level : ℕ) → pgm_cells dim level bytes.now ≡ Err e)) }
 {
     let first = read_image(dim, 0, None, bytes)?;
     let count = first.size.height * first.size.width;

@@ -1,6 +1,6 @@
 // Samples of an image, as bits of words.
 ghost use Rattle.std.specs.Prelude.{◌≡◌, ℕ, ◌+◌, ◌*◌, ◌<◌, ◌≤◌, ◌^◌, ◌++◌, ◌&&◌, ◌||◌, nat_eq, nat_lt, nat_le, length, OnOk};
-ghost use Rattle.evm_voxels.specs.Samples.{sample, bytes_of};
+ghost use Rattle.evm_formats.specs.Images.{sample, bytes_of};
 ghost use Rattle.evm_voxels.specs.Shots.{picture_of};
 ghost use Rattle.evm_voxels.specs.Marks.{bit_on, HasMarks};
 
@@ -8,7 +8,7 @@ use crate::image::Image;
 use std::alloc::AllocError;
 
 // Whether a sample is at least the threshold.
-#[tactic(auto, unfolding(crate::specs::Samples::sample))]
+#[tactic(auto, unfolding(evm_formats::specs::Images::sample))]
 fn is_at_least(image: Image<'_>, threshold: u32, index: usize) -> bool
     requires { bytes_of image.wide (index + 1) ≤ length image.bytes.now }
     ensures { result ≡ nat_le threshold (sample (picture_of image.entry) index) }

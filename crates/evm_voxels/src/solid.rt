@@ -1,15 +1,15 @@
 // The solid of marked images.
-ghost use Rattle.std.specs.Prelude.{◌≡◌, ℕ, List, ◌⊎◌, ◌*◌, ◌≤◌, length, IfOk, IfErr};
+ghost use Rattle.std.specs.Prelude.{◌≡◌, ℕ, List, ◌⊎◌, ◌*◌, ◌<◌, ◌≤◌, ◌^◌, length, IfOk, IfErr};
 ghost use Rattle.evm_cells.specs.Limits.{limit};
 ghost use Rattle.evm_cells.specs.Vertices.{evm};
-ghost use Rattle.evm_voxels.specs.declared.error.VoxelError.TheVariants.{NoMemory};
-ghost use Rattle.evm_voxels.specs.Samples.{Picture, cells_of_images};
+ghost use Rattle.evm_formats.specs.declared.voxels.VoxelError.TheVariants.{NoMemory};
+ghost use Rattle.evm_formats.specs.Images.{Picture, cells_of_images};
 ghost use Rattle.evm_voxels.specs.Shots.{words_of, AreMarked};
 
-use crate::error::VoxelError;
 use crate::grid::Grid;
 use crate::image::Extent;
 use crate::vertices::{image_vertices, stack_vertices};
+use evm_formats::VoxelError;
 use evm_rows::Solid;
 use std::alloc::Global;
 
@@ -26,6 +26,7 @@ pub fn solid_of(
     requires height { extent.size.height ≤ limit dim }
     requires depth { extent.depth ≤ limit dim }
     requires some { 1 ≤ extent.depth }
+    requires room { extent.depth * (extent.size.height * extent.size.width) < 2 ^ 63 }
     requires size { length marks.now ≡ extent.depth * words_of (extent.size.height * extent.size.width) }
     ensures dim { IfOk result (λ s. s.dim ≡ dim) }
     ensures rows { (threshold : ℕ) (images : List Picture) → length images ≡ extent.depth → AreMarked marks.now (extent.size.height * extent.size.width) extent.depth threshold images

@@ -1,16 +1,6 @@
 // Streams of frames.
 use crate::image::{Image, Size};
 
-/// How the planes after the luma are sampled: with halves of the columns and rows, with halves of the columns, with all of
-/// both, or not at all.
-#[derive(Clone, Copy)]
-pub enum Sampling {
-    Quarter,
-    Half,
-    Full,
-    Mono,
-}
-
 /// The values of the parameters of one letter: that of the only one, if there is just one.
 #[derive(Clone, Copy)]
 pub enum Found<'a> {

@@ -96,15 +96,16 @@ fn reads_wide_images(rt: HostRuntime) {
 
 #[test]
 fn refuses_pgm_files(rt: HostRuntime) {
-    let table: [(&[u8], VoxelError); 9] = [
+    let table: [(&[u8], VoxelError); 10] = [
         (b"", VoxelError::Magic),
         (b"P2 1 1 255\n\x00", VoxelError::Magic),
         (b"P5 0 1 255\n\x00", VoxelError::Header),
         (b"P5 1 1 65536\n\x00\x00", VoxelError::Header),
         (b"P5 1 1 255#\n\x00", VoxelError::Header),
         (b"P5 1 1 #255\n", VoxelError::Header),
-        (b"P5 524289 1 255\n\x00", VoxelError::Range),
+        (b"P5 1073741825 1 255\n\x00", VoxelError::Range),
         (b"P5 524288 524288 65535\n", VoxelError::Short),
+        (b"P5 1073741824 1073741824 65535\n", VoxelError::Short),
         (
             b"P5 10000000000000000000000000000000000000000 1 255\n",
             VoxelError::Range,
@@ -141,8 +142,8 @@ fn refuses_y4m_streams(rt: HostRuntime) {
         (b"YUV4MPEG2 W2 H2\r\n", VoxelError::Header),
         (b"YUV4MPEG2 W2 W2 H2\n", VoxelError::Header),
         (b"YUV4MPEG2 W2 H2 C420p10\n", VoxelError::Kind),
-        (b"YUV4MPEG2 W524289 H2 C411\n", VoxelError::Kind),
-        (b"YUV4MPEG2 W2 H524289\n", VoxelError::Range),
+        (b"YUV4MPEG2 W1073741825 H2 C411\n", VoxelError::Kind),
+        (b"YUV4MPEG2 W2 H1073741825\n", VoxelError::Range),
         (b"YUV4MPEG2 W2 H2\nFRAMES\n", VoxelError::Header),
         (b"YUV4MPEG2 W2 H2\nFRAME\n\x00\x00\x00", VoxelError::Short),
     ];

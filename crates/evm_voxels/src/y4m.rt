@@ -2,21 +2,21 @@
 ghost use Rattle.std.specs.Prelude.{◌≡◌, ℕ, List, ◌⊎◌, ◌+◌, ◌*◌, ◌<◌, ◌≤◌, ◌^◌, ◌++◌, ◌==◌, ◌&&◌, ◌||◌, length, drop, min, option_map, Option, Some, None, Ok, Err, false, true, MatchOption, IfOk, IfErr, nat_eq, codes, bytes_eq, ◌∷◌, []};
 ghost use Rattle.std.specs.List.{starts_with};
 ghost use Rattle.evm_cells.specs.Limits.{limit};
-ghost use Rattle.evm_voxels.specs.declared.error.VoxelError.TheVariants.{NoMemory};
-ghost use Rattle.evm_voxels.specs.Samples.{Picture};
+ghost use Rattle.evm_formats.specs.declared.voxels.VoxelError.TheVariants.{NoMemory};
+ghost use Rattle.evm_formats.specs.Images.{Picture, map_ok};
+ghost use Rattle.evm_voxels.specs.Numbers.{capped};
 ghost use Rattle.evm_voxels.specs.Outcomes.{Answers};
 ghost use Rattle.evm_voxels.specs.Shots.{AreMarked};
-ghost use Rattle.evm_voxels.specs.Header.{begins};
-ghost use Rattle.evm_voxels.specs.Pgm.{map_ok};
+ghost use Rattle.evm_formats.specs.Header.{begins};
 ghost use Rattle.evm_voxels.specs.Streams.{stream_of, frame_of, Shows};
-ghost use Rattle.evm_voxels.specs.Y4m.{cut_at, value_of, values, number_of, only_number, is_quarter, sampling_of, half, chroma, sized, kind_of, sampled, headed, ends_word, is_stream, stream, after_frame, planes_of, planes_at, frame_at, frames_of, y4m_cells};
+ghost use Rattle.evm_formats.specs.Y4m.{cut_at, value_of, values, number_of, only_number, is_quarter, sampling_of, half, chroma, sized, kind_of, sampled, headed, ends_word, is_stream, stream, after_frame, planes_of, planes_at, frame_at, frames_of, y4m_cells};
 
-use crate::error::VoxelError;
 use crate::header::{first_byte, number};
 use crate::image::{Extent, Image, Size};
 use crate::samples::mark_image;
 use crate::solid::solid_of;
-use crate::stream::{Found, Frame, Sampling, Stream};
+use crate::stream::{Found, Frame, Stream};
+use evm_formats::{Sampling, VoxelError};
 use evm_rows::{Solid, limit};
 use std::alloc::Global;
 
@@ -76,7 +76,7 @@ fn find(line: &[u8], letter: u8) -> Found<'_>
 
 // The number of a value, one past 32 bits as the greatest of 32 bits.
 fn number_of(digits: &[u8]) -> Option<u32>
-    ensures { result ≡ option_map (λ v. min v 4294967295) (number_of digits.now) }
+    ensures { result ≡ option_map capped (number_of digits.now) }
 {
     if digits.is_empty() {
         return None;
@@ -93,7 +93,7 @@ fn number_of(digits: &[u8]) -> Option<u32>
 
 // The number of the only parameter of a letter.
 fn only_number(found: Found<'_>) -> Option<u32>
-    ensures { (vs : List (List ℕ)) → Shows found.entry vs → result ≡ option_map (λ v. min v 4294967295) (only_number vs) }
+    ensures { (vs : List (List ℕ)) → Shows found.entry vs → result ≡ option_map capped (only_number vs) }
 {
     match found {
         Found::Once(digits) => number_of(digits),
@@ -117,7 +117,7 @@ fn is_quarter(kind: &[u8]) -> bool
 }
 
 // The sampling of a value of C.
-#[tactic(auto, unfolding(crate::specs::Y4m::sampling_of))]
+#[tactic(auto, unfolding(evm_formats::specs::Y4m::sampling_of))]
 fn sampling_of(kind: &[u8]) -> Option<Sampling>
     ensures { result ≡ sampling_of kind.now }
 {
@@ -159,7 +159,7 @@ fn chroma(sampling: Sampling, width: usize, height: usize) -> usize
 }
 
 // Kind and Range, and then the stream.
-#[tactic(auto, unfolding(crate::specs::Y4m::sized, evm_cells::specs::Limits::limit))]
+#[tactic(auto, unfolding(evm_formats::specs::Y4m::sized, evm_cells::specs::Limits::limit))]
 fn sized<'a>(
     dim: usize,
     width: u32,
@@ -301,7 +301,7 @@ fn planes_of(bytes: &[u8]) -> Option<&[u8]>
 
 /// Frame number `number` of a stream whose frames have this size and this number of bytes after their luma, or the first
 /// refusal. Takes no memory.
-#[tactic(auto, unfolding(crate::specs::Y4m::planes_at, crate::specs::Y4m::frame_at, evm_cells::specs::Limits::limit))]
+#[tactic(auto, unfolding(evm_formats::specs::Y4m::planes_at, evm_formats::specs::Y4m::frame_at, evm_cells::specs::Limits::limit))]
 pub fn read_frame(
     dim: usize,
     number: usize,
@@ -358,6 +358,7 @@ fn count_frames(dim: usize, of: Stream<'_>) -> Result<usize, VoxelError>
     ensures count { IfOk result (λ depth. (ps : List Picture) × (frames_of dim (stream_of of.entry) ≡ Ok ps) × (length ps ≡ depth)) }
     ensures refused { IfErr result (λ e. frames_of dim (stream_of of.entry) ≡ Err e) }
     ensures few { IfOk result (λ depth. depth ≤ limit dim) }
+    ensures room { IfOk result (λ depth. depth * (of.entry.size.height * of.entry.size.width) ≤ length of.entry.rest.now) }
 {
     let mut number = 0;
     let mut rest = of.rest;
@@ -384,6 +385,7 @@ fn mark_frames(
 ) -> Result<Vec<u32>, VoxelError>
     requires dim { (dim ≡ 2) ⊎ (dim ≡ 3) }
     requires depth { depth ≤ limit dim }
+    requires room { depth * (of.size.height * of.size.width) < 2 ^ 63 }
     requires width { of.size.width ≤ limit dim }
     requires height { of.size.height ≤ limit dim }
     requires extra { of.extra ≤ 2 ^ 62 }

@@ -1,7 +1,7 @@
-use Rattle.evm_voxels.specs.declared.error.VoxelError.TheVariants.{Kind}
-use Rattle.evm_voxels.specs.Pgm.{pgm_cells}
+use Rattle.evm_formats.specs.declared.voxels.VoxelError.TheVariants.{Kind}
+use Rattle.evm_formats.specs.Pgm.{pgm_cells}
 use Rattle.evm_voxels.proofs.Outcome.{answers_dim, answers_cells, answers_vertices, answers_refused, answers_never, answers_found}
-use Rattle.evm_voxels.proofs.Walking.{no_kind}
+use Rattle.evm_formats.proofs.PgmRefusals.{no_kind}
 use Rattle.evm_voxels.proofs.read_pgm.Goals as goal
 
 pub returns : goal.returns

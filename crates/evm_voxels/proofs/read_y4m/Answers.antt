@@ -1,4 +1,4 @@
-use Rattle.evm_voxels.specs.Y4m.{y4m_cells}
+use Rattle.evm_formats.specs.Y4m.{y4m_cells}
 use Rattle.evm_voxels.proofs.Outcome.{answers_dim, answers_cells, answers_vertices, answers_refused, answers_found}
 use Rattle.evm_voxels.proofs.read_y4m.Goals as goal
 

@@ -1,5 +1,5 @@
 use Rattle.std.proofs.Common.{◌∙◌, sym, arith, ◌≡◌, false, true}
-use Rattle.evm_voxels.specs.Header.{is_digit}
+use Rattle.evm_text.specs.Numbers.{is_digit}
 use Rattle.evm_voxels.proofs.Reading.{number_next, number_found, number_over, rest_next, rest_found, rest_over}
 use Rattle.evm_voxels.proofs.header.number.Goals as goal
 

@@ -1,5 +1,5 @@
 use Rattle.std.proofs.Common.{◌≡◌, length, false}
-use Rattle.evm_voxels.specs.Header.{after_blank}
+use Rattle.evm_formats.specs.Header.{after_blank}
 use Rattle.evm_voxels.proofs.header.skip_blank.Given as goal
 
 abbrev pub invariant-loop-b : goal.invariant-loop-b

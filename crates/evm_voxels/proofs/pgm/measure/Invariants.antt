@@ -1,14 +1,14 @@
-use Rattle.std.proofs.Common.{◌≡◌, ◌≤◌, false, length}
+use Rattle.std.proofs.Common.{◌≤◌, ◌+◌, ◌*◌, length}
 use Rattle.evm_cells.specs.Limits.{limit}
-use Rattle.evm_voxels.specs.Header.{is_white, begins}
-use Rattle.evm_voxels.specs.Shots.{pair_of}
-use Rattle.evm_voxels.proofs.Walking.{IsRead}
+use Rattle.evm_formats.specs.Pgm.{images_from, later_image}
+use Rattle.evm_voxels.specs.Shots.{pair_of, shot_of}
+use Rattle.evm_voxels.proofs.Walking.{IsPassed}
 use Rattle.evm_voxels.proofs.pgm.measure.Given as goal
 
 abbrev pub invariant-loop-rest : goal.invariant-loop-rest
 invariant-loop-rest l = record {
-  read : IsRead l.dim l.bytes (pair_of l.first.size) l.depth l.rest;
-  front : begins is_white l.rest ≡ false;
+  passed : IsPassed (images_from l.dim (shot_of l.first)) (later_image l.dim (pair_of l.first.size)) l.depth l.rest;
+  room : l.depth * (l.first.size.height * l.first.size.width) + length l.rest ≤ length l.bytes;
   few : l.depth ≤ limit l.dim;
 }
 

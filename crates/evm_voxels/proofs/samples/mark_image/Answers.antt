@@ -1,5 +1,5 @@
 use Rattle.std.proofs.Common.{nat_le, arith}
-use Rattle.evm_voxels.specs.Samples.{sample}
+use Rattle.evm_formats.specs.Images.{sample}
 use Rattle.evm_voxels.proofs.Marking.{so_far_none, so_far_more, so_far_all}
 use Rattle.evm_voxels.proofs.samples.mark_image.Goals as goal
 

@@ -1,5 +1,5 @@
 use Rattle.std.proofs.Common.{nat_le}
-use Rattle.evm_voxels.specs.Samples.{sample}
+use Rattle.evm_formats.specs.Images.{sample}
 use Rattle.evm_voxels.proofs.Marking.{IsSoFar}
 use Rattle.evm_voxels.proofs.samples.mark_image.Given as goal
 

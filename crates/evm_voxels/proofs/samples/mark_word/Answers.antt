@@ -1,5 +1,5 @@
 use Rattle.std.proofs.Common.{◌+◌, nat_le, arith}
-use Rattle.evm_voxels.specs.Samples.{sample}
+use Rattle.evm_formats.specs.Images.{sample}
 use Rattle.evm_voxels.proofs.Marking.{bit_step, no_bits, all_bits}
 use Rattle.evm_voxels.proofs.samples.mark_word.Goals as goal
 

@@ -1,5 +1,5 @@
 use Rattle.std.proofs.Common.{◌≡◌, ℕ, ◌+◌, ◌<◌, ◌&&◌, nat_lt, nat_le}
-use Rattle.evm_voxels.specs.Samples.{sample}
+use Rattle.evm_formats.specs.Images.{sample}
 use Rattle.evm_voxels.specs.Marks.{bit_on}
 use Rattle.evm_voxels.proofs.samples.mark_word.Given as goal
 

@@ -1,5 +1,7 @@
-use Rattle.std.proofs.Common.{arith, refl}
+use Rattle.std.proofs.Common.{◌*◌, arith, refl}
 use Rattle.evm_voxels.specs.Grids.{filled_in, filled_flat}
+use Rattle.evm_formats.proofs.Limits.{limit_small}
+use Rattle.evm_voxels.proofs.Marking.{pitch_fits}
 use Rattle.evm_voxels.proofs.Filled.{rows_fit, stack_rows, image_rows}
 use Rattle.evm_voxels.proofs.solid.solid_of.Goals as goal
 
@@ -16,3 +18,7 @@ returns-in_ok-image_vertices-clause-rows c threshold images l m =
 pub returns-in_ok-stack_vertices-clause-rows : goal.returns-in_ok-stack_vertices-clause-rows
 returns-in_ok-stack_vertices-clause-rows c threshold images l m =
     stack_rows _ c.args.dim threshold images _ _ (omega arith) l m (omega (arith, c.div_ceil.ensures)) c.in_ok-stack_vertices.ensures c.from_rows-else-dim-le2.ensures.rows
+
+pub invariant_of-places-else-dim-le2-clause-small : goal.invariant_of-places-else-dim-le2-clause-small
+invariant_of-places-else-dim-le2-clause-small c =
+    pitch_fits c.args.extent.depth (c.args.extent.size.height * c.args.extent.size.width) c.div_ceil.result c.requires.room (omega (arith, c.requires.depth, limit_small c.args.dim)) c.div_ceil.ensures

@@ -1,41 +1,49 @@
-use Rattle.std.proofs.Common.{rules, ◌≡◌, ◌<◌, length, Err, arith, sym, ◌∙◌}
+use Rattle.std.proofs.Common.{rules, ◌≡◌, ◌*◌, ◌<◌, length, Err, arith, zero-mul, sym, ◌∙◌}
 use Rattle.std.proofs.lemmas.Bool.Decides.{nat_tests}
-use Rattle.evm_cells.specs.Limits.{limit}
-use Rattle.evm_voxels.specs.Streams.{stream_of}
-use Rattle.evm_voxels.specs.Y4m.{frames_of}
-use Rattle.evm_voxels.proofs.Frames.{framed_none, framed_more, framed_all, framed_shape, framed_refused, frame_shorter}
+use Rattle.evm_formats.specs.Y4m.{frames_of}
+use Rattle.evm_formats.proofs.Lengths.{frame_takes, frames-take}
+use Rattle.evm_voxels.specs.Streams.{stream_of, frame_of}
+use Rattle.evm_formats.proofs.Limits.{limit_small}
+use Rattle.evm_voxels.proofs.Frames.{takes_of, whole_of, frames_refused, frames_missing, frames_all}
+use Rattle.evm_voxels.proofs.Walking.{passed_none, passed_more, more_room}
 use Rattle.evm_voxels.proofs.y4m.count_frames.Goals as goal
 
 pub loop-rest-init : goal.loop-rest-init
-unfolding limit
-loop-rest-init c = record { walk = framed_none c.args.dim c.args.of.size.width c.args.of.size.height c.args.of.extra c.args.of.rest.now; few = omega arith }
+loop-rest-init c = record { passed = passed_none (takes_of c.args.dim (stream_of c.args.of)) c.args.of.rest.now; room = omega (arith, zero-mul (c.args.of.size.height * c.args.of.size.width)); few = omega arith }
 
 pub returns-in_err-frame-clause-refused : goal.returns-in_err-frame-clause-refused
 returns-in_err-frame-clause-refused c =
     let some : 0 < length c.loop-rest.rest.now = grind (arith, nat_tests) in
     let h : frames_of c.args.dim (stream_of c.args.of) ≡ Err c.in_err-frame.field-0.0 =
-    framed_refused c.args.dim c.args.of.size.width c.args.of.size.height c.args.of.extra c.args.of.rest.now c.loop-rest.number c.loop-rest.rest.now c.in_err-frame.field-0.0 c.loop-rest.invariant.walk some (sym c.in_err-frame.ensures.exact) in
+    frames_refused c.args.dim (stream_of c.args.of) c.loop-rest.number c.loop-rest.rest.now c.in_err-frame.field-0.0 c.loop-rest.invariant.passed some (sym c.in_err-frame.ensures.exact) in
     search rules
 
 pub overflow_add-number : goal.overflow_add-number
-unfolding limit
-overflow_add-number c = let h = c.in_ok-frame.ensures.number in search rules
+overflow_add-number c = let h = c.in_ok-frame.ensures.number in omega (arith, limit_small c.args.dim)
 
 pub loop-rest-smaller : goal.loop-rest-smaller
-loop-rest-smaller c = frame_shorter c.args.dim c.loop-rest.number c.args.of.size.width c.args.of.size.height c.args.of.extra c.loop-rest.rest.now _ (sym c.in_ok-frame.ensures.exact)
+loop-rest-smaller c =
+    omega (arith, frame_takes c.args.dim c.loop-rest.number c.args.of.size.width c.args.of.size.height c.args.of.extra c.loop-rest.rest.now (frame_of c.in_ok-frame.frame) (sym c.in_ok-frame.ensures.exact))
 
 pub loop-rest-preserved : goal.loop-rest-preserved
-unfolding limit
-loop-rest-preserved c = record {
-  walk = framed_more c.args.dim c.args.of.size.width c.args.of.size.height c.args.of.extra c.args.of.rest.now c.loop-rest.number c.loop-rest.rest.now _ c.loop-rest.invariant.walk (grind (arith, nat_tests)) (sym c.in_ok-frame.ensures.exact);
-  few = let h = c.in_ok-frame.ensures.number in omega arith;
-}
+loop-rest-preserved c =
+    let s = stream_of c.args.of in
+    let t = frame_of c.in_ok-frame.frame in
+    let there = sym c.in_ok-frame.ensures.exact in
+    record {
+      passed = passed_more (whole_of c.args.dim s) (takes_of c.args.dim s) (frames-take c.args.dim s.width s.height s.extra) c.loop-rest.number c.loop-rest.rest.now t c.loop-rest.invariant.passed (grind (arith, nat_tests)) there;
+      room = more_room c.loop-rest.number (s.height * s.width) (length c.loop-rest.rest.now) _ _ c.loop-rest.invariant.room (omega (arith, frame_takes c.args.dim c.loop-rest.number s.width s.height s.extra c.loop-rest.rest.now t there));
+      few = let h = c.in_ok-frame.ensures.number in omega arith;
+    }
 
 pub returns-then-is_missing-clause-refused : goal.returns-then-is_missing-clause-refused
 returns-then-is_missing-clause-refused c =
-    framed_shape c.args.dim c.args.of.size.width c.args.of.size.height c.args.of.extra c.args.of.rest.now c.loop-rest.number c.loop-rest.rest.now c.loop-rest.invariant.walk (grind (arith, nat_tests)) (sym c.is_missing.ensures ∙ c.if-is_missing.true)
+    frames_missing c.args.dim (stream_of c.args.of) c.loop-rest.number c.loop-rest.rest.now c.loop-rest.invariant.passed (grind (arith, nat_tests)) (sym c.is_missing.ensures ∙ c.if-is_missing.true)
 
 pub returns-clause-count : goal.returns-clause-count
 returns-clause-count c =
-    let i = c.loop-rest.invariant.walk in
-    (i.luma, framed_all c.args.dim c.args.of.size.width c.args.of.size.height c.args.of.extra c.args.of.rest.now c.loop-rest.number c.loop-rest.rest.now i (grind (arith, nat_tests)) (sym c.is_missing.ensures ∙ c.if-is_missing.false), i.count)
+    let i = c.loop-rest.invariant.passed in
+    (i.images, frames_all c.args.dim (stream_of c.args.of) c.loop-rest.number c.loop-rest.rest.now i (grind (arith, nat_tests)) (sym c.is_missing.ensures ∙ c.if-is_missing.false), i.count)
+
+pub returns-clause-room : goal.returns-clause-room
+returns-clause-room c = omega (arith, c.loop-rest.invariant.room)

@@ -1,11 +1,14 @@
-use Rattle.std.proofs.Common.{◌≤◌, length}
+use Rattle.std.proofs.Common.{◌≤◌, ◌+◌, ◌*◌, length}
 use Rattle.evm_cells.specs.Limits.{limit}
-use Rattle.evm_voxels.proofs.Frames.{IsFramed}
+use Rattle.evm_voxels.specs.Streams.{stream_of}
+use Rattle.evm_voxels.proofs.Frames.{takes_of, whole_of}
+use Rattle.evm_voxels.proofs.Walking.{IsPassed}
 use Rattle.evm_voxels.proofs.y4m.count_frames.Given as goal
 
 abbrev pub invariant-loop-rest : goal.invariant-loop-rest
 invariant-loop-rest l = record {
-  walk : IsFramed l.dim l.of.size.width l.of.size.height l.of.extra l.of.rest.now l.number l.rest;
+  passed : IsPassed (whole_of l.dim (stream_of l.of)) (takes_of l.dim (stream_of l.of)) l.number l.rest;
+  room : l.number * (l.of.size.height * l.of.size.width) + length l.rest ≤ length l.of.rest.now;
   few : l.number ≤ limit l.dim;
 }
 

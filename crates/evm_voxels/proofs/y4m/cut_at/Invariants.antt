@@ -1,5 +1,5 @@
 use Rattle.std.proofs.Common.{◌≡◌, take, drop}
-use Rattle.evm_voxels.specs.Y4m.{cut_at}
+use Rattle.evm_formats.specs.Y4m.{cut_at}
 use Rattle.evm_voxels.proofs.Params.{behind}
 use Rattle.evm_voxels.proofs.y4m.cut_at.Given as goal
 

@@ -1,6 +1,6 @@
 use Rattle.std.proofs.Common.{◌≡◌, List, ℕ, ◌++◌, length}
 use Rattle.evm_voxels.specs.Streams.{Shows}
-use Rattle.evm_voxels.specs.Y4m.{values}
+use Rattle.evm_formats.specs.Y4m.{values}
 use Rattle.evm_voxels.proofs.y4m.find.Given as goal
 
 abbrev pub invariant-loop-parameter : goal.invariant-loop-parameter

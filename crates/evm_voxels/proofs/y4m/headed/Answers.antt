@@ -1,5 +1,5 @@
 use Rattle.std.proofs.Common.{◌∙◌}
-use Rattle.evm_voxels.specs.Y4m.{values, only_number, kind_of}
+use Rattle.evm_formats.specs.Y4m.{values, only_number, kind_of}
 use Rattle.evm_voxels.proofs.Frames.{no_width, no_height, no_kind, all_sized}
 use Rattle.evm_voxels.proofs.y4m.headed.Goals as goal
 

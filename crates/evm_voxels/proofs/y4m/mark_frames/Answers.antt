@@ -1,43 +1,44 @@
-use Rattle.std.proofs.Common.{rules, ◌≡◌, ◌<◌, length, Err, arith, sym}
+use Rattle.std.proofs.Common.{rules, ◌≡◌, ◌*◌, ◌<◌, length, Err, arith, sym}
 use Rattle.std.proofs.lemmas.Bool.Decides.{nat_tests}
-use Rattle.evm_cells.specs.Limits.{limit}
-use Rattle.evm_voxels.specs.Streams.{stream_of}
-use Rattle.evm_voxels.specs.Y4m.{frames_of}
+use Rattle.evm_formats.specs.Y4m.{frames_of}
+use Rattle.evm_formats.proofs.Lengths.{frame_takes, frames-take}
+use Rattle.evm_voxels.specs.Streams.{stream_of, frame_of}
+use Rattle.evm_formats.proofs.Limits.{limit_small}
 use Rattle.evm_voxels.proofs.Marking.{words_fit}
-use Rattle.evm_voxels.proofs.Frames.{planes_none, planes_more, planes_all, framed_refused, frame_shorter}
+use Rattle.evm_voxels.proofs.Frames.{takes_of, whole_of, frames_refused, frames_marked_all}
+use Rattle.evm_voxels.proofs.Walking.{marked_none, marked_next}
 use Rattle.evm_voxels.proofs.y4m.mark_frames.Goals as goal
 
 pub overflow_mul-depth : goal.overflow_mul-depth
-unfolding limit
-overflow_mul-depth c =
-    let h = words_fit c.args.depth c.args.of.size.width c.args.of.size.height c.div_ceil.result c.requires.depth c.requires.width c.requires.height c.div_ceil.ensures in
-    search rules
+overflow_mul-depth c = let h = words_fit c.args.depth (c.args.of.size.height * c.args.of.size.width) c.div_ceil.result c.requires.room c.div_ceil.ensures in search rules
 
 pub loop-rest-init : goal.loop-rest-init
-unfolding limit
-loop-rest-init c = record {
-  walk = planes_none c.args.dim c.args.of.size.width c.args.of.size.height c.args.of.extra c.args.of.rest.now c.args.threshold _ c.in_ok-marks.ensures.items;
-  few = omega arith;
-}
+loop-rest-init c =
+    record { marked = marked_none (takes_of c.args.dim (stream_of c.args.of)) c.args.of.rest.now (c.args.of.size.height * c.args.of.size.width) c.args.threshold _ c.in_ok-marks.ensures.items; few = omega arith }
 
 pub returns-in_err-frame-clause-refused : goal.returns-in_err-frame-clause-refused
 returns-in_err-frame-clause-refused c =
     let some : 0 < length c.loop-rest.rest.now = grind (arith, nat_tests) in
     let h : frames_of c.args.dim (stream_of c.args.of) ≡ Err c.in_err-frame.field-0.0 =
-    framed_refused c.args.dim c.args.of.size.width c.args.of.size.height c.args.of.extra c.args.of.rest.now c.loop-rest.number c.loop-rest.rest.now c.in_err-frame.field-0.0 c.loop-rest.invariant.walk.read some (sym c.in_err-frame.ensures.exact) in
+    frames_refused c.args.dim (stream_of c.args.of) c.loop-rest.number c.loop-rest.rest.now c.in_err-frame.field-0.0 c.loop-rest.invariant.marked.passed some (sym c.in_err-frame.ensures.exact) in
     search rules
 
+pub overflow_add-number : goal.overflow_add-number
+overflow_add-number c = let h = c.in_ok-frame.ensures.number in omega (arith, limit_small c.args.dim)
+
 pub loop-rest-smaller : goal.loop-rest-smaller
-loop-rest-smaller c = frame_shorter c.args.dim c.loop-rest.number c.args.of.size.width c.args.of.size.height c.args.of.extra c.loop-rest.rest.now _ (sym c.in_ok-frame.ensures.exact)
+loop-rest-smaller c =
+    omega (arith, frame_takes c.args.dim c.loop-rest.number c.args.of.size.width c.args.of.size.height c.args.of.extra c.loop-rest.rest.now (frame_of c.in_ok-frame.frame) (sym c.in_ok-frame.ensures.exact))
 
 pub loop-rest-preserved : goal.loop-rest-preserved
-unfolding limit
-loop-rest-preserved c = record {
-  walk = planes_more c.args.dim c.args.of.size.width c.args.of.size.height c.args.of.extra c.args.of.rest.now c.loop-rest.number c.loop-rest.rest.now _ c.args.threshold c.loop-rest.marks.items _ c.loop-rest.invariant.walk
-      (grind (arith, nat_tests)) (sym c.in_ok-frame.ensures.exact) c.in_ok-mark_image.ensures;
-  few = let h = c.in_ok-frame.ensures.number in omega arith;
-}
+loop-rest-preserved c =
+    let s = stream_of c.args.of in
+    record {
+      marked = marked_next (whole_of c.args.dim s) (takes_of c.args.dim s) (frames-take c.args.dim s.width s.height s.extra) c.loop-rest.number c.loop-rest.rest.now (frame_of c.in_ok-frame.frame) (s.height * s.width) c.args.threshold
+          c.loop-rest.marks.items _ c.loop-rest.invariant.marked (grind (arith, nat_tests)) (sym c.in_ok-frame.ensures.exact) c.in_ok-mark_image.ensures;
+      few = let h = c.in_ok-frame.ensures.number in omega arith;
+    }
 
 pub returns-clause-marked : goal.returns-clause-marked
 returns-clause-marked c =
-    planes_all c.args.dim c.args.of.size.width c.args.of.size.height c.args.of.extra c.args.of.rest.now c.loop-rest.number c.loop-rest.rest.now c.args.threshold c.loop-rest.marks.items c.loop-rest.invariant.walk (grind (arith, nat_tests))
+    frames_marked_all c.args.dim (stream_of c.args.of) c.loop-rest.number c.loop-rest.rest.now c.args.threshold c.loop-rest.marks.items c.loop-rest.invariant.marked (grind (arith, nat_tests))
