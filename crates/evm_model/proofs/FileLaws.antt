@@ -163,12 +163,3 @@ saved_loads a bytes = by (is_its_file a.dim bytes) refl
 pub loaded_is_saved : (bytes : List ℕ) (a : Figure) → IsSolidCells a.dim a.cells → (figure_in forms.Evm a.dim bytes ≡ Some a) ↔ (bytes ≡ bytes_in saves.Evm a)
 unfolding figure_in bytes_in
 loaded_is_saved bytes a s = (saved_loads a bytes, loads_saved a bytes s)
-
--- bytes that are the file of no cell set of a dimension state no figure of it
-pub none_loaded : (n : ℕ) (bytes : List ℕ) → ((S : List (List ℤ)) → IsCellSet n S → bytes ≡ file_of_cells n S → ⊥) → figure_in forms.Evm n bytes ≡ None
-unfolding figure_in
-none_loaded n bytes other = by (is_its_file n bytes) refl
-  where
-    by : (b : Bool) → is_its_file n bytes ≡ b → cond b (Some (row_figure n bytes)) None ≡ None
-    by true q = absurd (other (cells n (stated_rows bytes)) (cell_set-cells n (stated_rows bytes)) (same_name bytes (file_of_cells n (cells n (stated_rows bytes))) q))
-    by false q = refl

@@ -32,15 +32,6 @@ module _ {V : Type 0} (reads : List ℕ → List (List ℕ)) (step : List ℕ �
       more : (z : List ℕ) → is_among z (y ∷ seen) ≡ true → (i j : ℕ) → m + 1 ≤ i → m + 1 ≤ j → w i z ≡ v j z
       more z l i j a b = by_among z y seen l (λ e. subst (λ (u : List ℕ). w i u ≡ v j u) (sym e) (here i j a b)) (λ d old. done z old i j (omega arith) (omega arith))
 
--- a function by levels of operands agrees with each fixed point, at as many levels as names were passed
-pub by_levels : {V : Type 0} (reads : List ℕ → List (List ℕ)) (step : List ℕ → (List ℕ → V) → V) (w : ℕ → List ℕ → V) (f : List ℕ → V)
-    → ((x : List ℕ) (g h : List ℕ → V) → ((o : List ℕ) → is_among o (reads x) ≡ true → g o ≡ h o) → step x g ≡ step x h)
-    → ((n : ℕ) (x : List ℕ) → w (suc n) x ≡ step x (w n))
-    → (order : List (List ℕ)) → Ordered reads [] order → ((x : List ℕ) → is_among x order ≡ true → f x ≡ step x f)
-    → (x : List ℕ) → is_among x order ≡ true → (n : ℕ) → length order ≤ n → w n x ≡ f x
-by_levels {V} reads step w f local steps order ordered fixed x there n deep =
-    levels_agree reads step w (λ k. f) local [] order ordered (λ z l k. steps k z) (λ z l k. fixed z l) 0 (λ z l i j a b. among_none z l) x there n n (omega arith) (omega arith)
-
 -- two fixed points agree
 pub fixed_agree : {V : Type 0} (reads : List ℕ → List (List ℕ)) (step : List ℕ → (List ℕ → V) → V) (f g : List ℕ → V)
     → ((x : List ℕ) (g h : List ℕ → V) → ((o : List ℕ) → is_among o (reads x) ≡ true → g o ≡ h o) → step x g ≡ step x h)
@@ -191,16 +182,6 @@ module _ (scene : Scene) (order : List (List ℕ)) (ordered : Ordered (operands_
       fixed_agree (operands_of scene.entries) (λ x g. bytes_eq x name || list_any g (operands_of scene.entries x)) (λ x. is_among x reach) (λ x. bytes_eq x name || reaches scene x name)
       (λ x g h same. ap (λ (b : Bool). bytes_eq x name || b) (any_among g h (operands_of scene.entries x) same))
       order ordered (λ x m. exact x (sym (whole x) ∙ m)) (λ x m. ap (λ (b : Bool). bytes_eq x name || b) (reaches_step x name)) o (whole o ∙ there)
-
-  -- the same at each name but the one that is reached
-  pub reach_found_other : (name : List ℕ) (reach : List (List ℕ))
-      → ((x : List ℕ) → stands scene x ≡ true → is_among x reach ≡ (bytes_eq x name || list_any (λ o. is_among o reach) (operands_of scene.entries x)))
-      → ((x : List ℕ) → stands scene x ≡ false → bytes_eq x name ≡ false → is_among x reach ≡ false)
-      → (o : List ℕ) → bytes_eq o name ≡ false → is_among o reach ≡ reaches scene o name
-  reach_found_other name reach exact none o d =
-      by_test (stands scene o)
-      (λ s. reach_found name reach exact o s ∙ ap (λ (b : Bool). b || reaches scene o name) d)
-      (λ out. none o out d ∙ sym (reaches_from_none o name out))
 
   -- from names whose operands are among them no other is reached
   not_reached : (seen : List (List ℕ)) → ((x : List ℕ) → is_among x seen ≡ true → AllSeen seen (operands_of scene.entries x))

@@ -15,7 +15,7 @@ use Rattle.evm_model.specs.Edits.{Replace, Code, Name, Kind, Dim, Range, Missing
 use Rattle.evm_model.specs.Replies.{No, Changed, is_no}
 use Rattle.evm_model.specs.Steps.{Turn, unless_refused, load_causes, loaded, file_causes, load_turn, line_turn, step, command_fetches, of_line, fetches}
 use Rattle.evm_model.proofs.Names.{not_false, not_true}
-use Rattle.evm_model.proofs.Refusals.{none_first, none_later, none_front, none_back}
+use Rattle.evm_model.proofs.Refusals.{none_holds}
 use Rattle.evm_model.proofs.WellEdits.{standing_dim, well_figure}
 use Rattle.evm_model.proofs.EditLaws.{value_own}
 use Rattle.evm_model.proofs.FileLaws.{HasCells, loaded_set}
@@ -89,42 +89,16 @@ pub record IsLoad (fetched : Fetches) (scene : Scene) (name file : List ℕ) (fo
 
 pub load_for : (fetched : Fetches) (scene : Scene) (name file : List ℕ) (form : LoadForm)
     → first_cause (load_causes scene name form ++ file_causes fetched scene name form file) ≡ None → IsLoad fetched scene name file form
-load_for fetched scene name file form r = record {
-  standing = not_false (stands scene name) (none_first (not (stands scene name), Name) kind first);
-  input = not_false (is_input scene name) (none_first (not (is_input scene name), Kind) dims second);
-  fits = not_false (form_fits form (dim_of scene name)) (none_first (not (form_fits form (dim_of scene name)), Dim) range third);
-  range = not_false (form_in_range form) (none_first (not (form_in_range form), Range) [] (none_later (not (form_fits form (dim_of scene name)), Dim) range third));
-  stated = none_first (is_none (figure_fetched form (dim_of scene name) (fetched file)), Form) left behind;
-  stay = not_false (all_stay (with_figure scene name (loaded fetched scene name form file)))
-      (none_first (not (all_stay (with_figure scene name (loaded fetched scene name form file))), Range) []
-      (none_later (is_none (figure_fetched form (dim_of scene name) (fetched file)), Form) left behind));
-}
-  where
-    first : first_cause (load_causes scene name form) ≡ None
-    first = none_front (load_causes scene name form) (file_causes fetched scene name form file) r
-
-    range : List (Bool × Code)
-    range = (not (form_in_range form), Range) ∷ []
-
-    dims : List (Bool × Code)
-    dims = (not (form_fits form (dim_of scene name)), Dim) ∷ range
-
-    kind : List (Bool × Code)
-    kind = (not (is_input scene name), Kind) ∷ dims
-
-    second : first_cause kind ≡ None
-    second = none_later (not (stands scene name), Name) kind first
-
-    third : first_cause dims ≡ None
-    third = none_later (not (is_input scene name), Kind) dims second
-
-    left : List (Bool × Code)
-    left = value_causes (with_figure scene name (loaded fetched scene name form file))
-
-    behind : first_cause ((is_none (figure_fetched form (dim_of scene name) (fetched file)), Form) ∷ left) ≡ None
-    behind =
-        none_later (is_none (fetched file), Missing) ((is_none (figure_fetched form (dim_of scene name) (fetched file)), Form) ∷ left)
-        (none_back (load_causes scene name form) (file_causes fetched scene name form file) r)
+load_for fetched scene name file form r =
+    let h = none_holds (load_causes scene name form ++ file_causes fetched scene name form file) r in
+    record {
+      standing = not_false (stands scene name) h.0;
+      input = not_false (is_input scene name) h.1.0;
+      fits = not_false (form_fits form (dim_of scene name)) h.1.1.0;
+      range = not_false (form_in_range form) h.1.1.1.0;
+      stated = h.1.1.1.1.1.0;
+      stay = not_false (all_stay (with_figure scene name (loaded fetched scene name form file))) h.1.1.1.1.1.1.0;
+    }
 
 -- the figure of a load is a cell set of the dimension of its name
 load_set : (fetched : Fetches) (scene : Scene) (name file : List ℕ) (form : LoadForm) → IsWell scene → IsLoad fetched scene name file form → HasCells (dim_of scene name) (loaded fetched scene name form file)
@@ -207,140 +181,77 @@ is_form _ = false
 absent : (test : Code → Bool) (causes : List (Bool × Code)) (code : Code) → list_all (λ (c : Bool × Code). not (test c.1)) causes ≡ true → test code ≡ true → first_cause causes ≡ Some code → ⊥
 absent test causes code h t e = false≢true (sym (not_true (test code) (first_passes (λ c. not (test c)) causes code h e)) ∙ t)
 
--- a code of a file is the first cause of a load exactly where nothing refuses before
-by_file : (test : Code → Bool) (cs ds : List (Bool × Code)) (code : Code) → list_all (λ (c : Bool × Code). not (test c.1)) cs ≡ true → test code ≡ true → first_cause (cs ++ ds) ≡ Some code
-    → (is_none (first_cause cs) ≡ true) × (first_cause ds ≡ Some code)
-by_file test cs ds code h t e = by (first_cause cs) refl
+-- a load is answered by a code of its file exactly where it fetches and the code is the first of what refuses it by the file
+by_file : (fetched : Fetches) (scene : Scene) (line name file : List ℕ) (form : LoadForm) (test : Code → Bool) (code : Code) → command line ≡ Ok (commands.Load name form file)
+    → list_all (λ (c : Bool × Code). not (test c.1)) (load_causes scene name form) ≡ true → test code ≡ true
+    → ((step fetched scene line).reply ≡ No code) ↔ ((fetches scene line ≡ true) × (first_cause (file_causes fetched scene name form file) ≡ Some code))
+by_file fetched scene line name file form test code e others own = (into, from)
   where
-    by : (o : Option Code) → first_cause cs ≡ o → (is_none o ≡ true) × (first_cause ds ≡ Some code)
-    by None q = (refl, sym (first_back cs ds q) ∙ e)
-    by (Some c) q = absurd (absent test cs code h t (q ∙ sym (first_front cs ds c q) ∙ e))
+    before : List (Bool × Code)
+    before = load_causes scene name form
 
-missing_nothing : (o : Option (List ℕ)) (ds : List (Bool × Code)) → list_all (λ (c : Bool × Code). not (is_missing c.1)) ds ≡ true → first_cause ((is_none o, Missing) ∷ ds) ≡ Some Missing → o ≡ None
-missing_nothing None ds h e = refl
-missing_nothing (Some bytes) ds h e = absurd (absent is_missing ds Missing h refl e)
+    behind : List (Bool × Code)
+    behind = file_causes fetched scene name form file
 
-form_bytes : (form : LoadForm) (n : ℕ) (o : Option (List ℕ)) (ds : List (Bool × Code)) → list_all (λ (c : Bool × Code). not (is_form c.1)) ds ≡ true
-    → first_cause ((is_none o, Missing) ∷ (is_none (figure_fetched form n o), Form) ∷ ds) ≡ Some Form → (bytes : List ℕ) × (o ≡ Some bytes) × (figure_in form n bytes ≡ None)
-form_bytes form n None ds h e = absurd (no_form e)
+    into : (step fetched scene line).reply ≡ No code → (fetches scene line ≡ true) × (first_cause behind ≡ Some code)
+    into q = by (first_cause before) refl
+      where
+        first : first_cause (before ++ behind) ≡ Some code
+        first = refused_so (first_cause (before ++ behind)) scene (load_made fetched scene name form file) code refl
+            (sym (ap (λ (t : Turn). t.reply) (load_step fetched scene line name file form e)) ∙ q)
+
+        by : (o : Option Code) → first_cause before ≡ o → (fetches scene line ≡ true) × (first_cause behind ≡ Some code)
+        by None k = (load_fetches scene line name file form e ∙ ap (λ (o : Option Code). is_none o) k, sym (first_back before behind k) ∙ first)
+        by (Some c) k = absurd (absent test before code others own (k ∙ sym (first_front before behind c k) ∙ first))
+
+    from : (fetches scene line ≡ true) × (first_cause behind ≡ Some code) → (step fetched scene line).reply ≡ No code
+    from h =
+        ap (λ (t : Turn). t.reply) (load_step fetched scene line name file form e)
+        ∙ ap (λ (o : Option Code). (unless_refused o scene (load_made fetched scene name form file)).reply)
+        (first_back before behind (no_cause (first_cause before) (sym (load_fetches scene line name file form e) ∙ h.0)) ∙ h.1)
+
+-- there is no file exactly where the first cause says so
+missing_cause : (got : Option (List ℕ)) (ds : List (Bool × Code)) → list_all (λ (c : Bool × Code). not (is_missing c.1)) ds ≡ true
+    → (first_cause ((is_none got, Missing) ∷ ds) ≡ Some Missing) ↔ (got ≡ None)
+missing_cause got ds h = (into got, λ e. ap (λ (x : Option (List ℕ)). first_cause ((is_none x, Missing) ∷ ds)) e)
   where
-    no_form : Some Missing ≡ Some Form → ⊥
-    no_form q = cc
-form_bytes form n (Some bytes) ds h e = (bytes, refl, by (figure_in form n bytes) e)
-  where
-    by : (a : Option Figure) → first_cause ((is_none a, Form) ∷ ds) ≡ Some Form → a ≡ None
-    by None q = refl
-    by (Some a) q = absurd (absent is_form ds Form h refl q)
-
-missing_first : (got : Option (List ℕ)) (ds : List (Bool × Code)) → got ≡ None → first_cause ((is_none got, Missing) ∷ ds) ≡ Some Missing
-missing_first got ds e = ap (λ (x : Option (List ℕ)). first_cause ((is_none x, Missing) ∷ ds)) e
+    into : (o : Option (List ℕ)) → first_cause ((is_none o, Missing) ∷ ds) ≡ Some Missing → o ≡ None
+    into None e = refl
+    into (Some bytes) e = absurd (absent is_missing ds Missing h refl e)
 
 pub missing_is : (fetched : Fetches) (scene : Scene) (line name file : List ℕ) (form : LoadForm) → command line ≡ Ok (commands.Load name form file)
     → ((step fetched scene line).reply ≡ No Missing) ↔ ((fetches scene line ≡ true) × (fetched file ≡ None))
-missing_is fetched scene line name file form e = (into, from)
+missing_is fetched scene line name file form e =
+    let code = by_file fetched scene line name file form is_missing Missing e refl refl in
+    let file_law = missing_cause (fetched file) ((is_none (figure_fetched form (dim_of scene name) (fetched file)), Form) ∷ value_causes (with_figure scene name (loaded fetched scene name form file))) refl in
+    (λ q. ((code.0 q).0, file_law.0 (code.0 q).1), λ h. code.1 (h.0, file_law.1 h.1))
+
+-- its bytes state no figure exactly where the first cause says so
+form_cause : (form : LoadForm) (n : ℕ) (got : Option (List ℕ)) (ds : List (Bool × Code)) → list_all (λ (c : Bool × Code). not (is_form c.1)) ds ≡ true
+    → (first_cause ((is_none got, Missing) ∷ (is_none (figure_fetched form n got), Form) ∷ ds) ≡ Some Form)
+    ↔ ((bytes : List ℕ) × (got ≡ Some bytes) × (figure_in form n bytes ≡ None))
+form_cause form n got ds h = (
+  into got,
+  λ (bytes, found, none).
+      ap (λ (x : Option (List ℕ)). first_cause ((is_none x, Missing) ∷ (is_none (figure_fetched form n x), Form) ∷ ds)) found
+      ∙ ap (λ (x : Option Figure). first_cause ((is_none x, Form) ∷ ds)) none,
+)
   where
-    before : List (Bool × Code)
-    before = load_causes scene name form
+    no_form : Some Missing ≡ Some Form → ⊥
+    no_form q = cc
 
-    behind : List (Bool × Code)
-    behind = file_causes fetched scene name form file
+    none_stated : (a : Option Figure) → first_cause ((is_none a, Form) ∷ ds) ≡ Some Form → a ≡ None
+    none_stated None q = refl
+    none_stated (Some a) q = absurd (absent is_form ds Form h refl q)
 
-    into : (step fetched scene line).reply ≡ No Missing → (fetches scene line ≡ true) × (fetched file ≡ None)
-    into q =
-        let first = refused_so (first_cause (before ++ behind)) scene (load_made fetched scene name form file) Missing refl (sym (ap (λ (t : Turn). t.reply) (load_step fetched scene line name file form e)) ∙ q) in
-        let parts = by_file is_missing before behind Missing refl refl first in
-        (load_fetches scene line name file form e ∙ parts.0, missing_nothing (fetched file) ((is_none (figure_fetched form (dim_of scene name) (fetched file)), Form) ∷ value_causes (with_figure scene name (loaded fetched scene name form file))) refl parts.1)
-
-    from : (fetches scene line ≡ true) × (fetched file ≡ None) → (step fetched scene line).reply ≡ No Missing
-    from h =
-        ap (λ (t : Turn). t.reply) (load_step fetched scene line name file form e)
-        ∙ ap (λ (o : Option Code). (unless_refused o scene (load_made fetched scene name form file)).reply)
-        (first_back before behind (no_cause (first_cause before) (sym (load_fetches scene line name file form e) ∙ h.0))
-        ∙ missing_first (fetched file) ((is_none (figure_fetched form (dim_of scene name) (fetched file)), Form) ∷ value_causes (with_figure scene name (loaded fetched scene name form file))) h.1)
-
-form_first : (form : LoadForm) (n : ℕ) (got : Option (List ℕ)) (bytes : List ℕ) (ds : List (Bool × Code)) → got ≡ Some bytes → figure_in form n bytes ≡ None
-    → first_cause ((is_none got, Missing) ∷ (is_none (figure_fetched form n got), Form) ∷ ds) ≡ Some Form
-form_first form n got bytes ds found none =
-    ap (λ (x : Option (List ℕ)). first_cause ((is_none x, Missing) ∷ (is_none (figure_fetched form n x), Form) ∷ ds)) found
-    ∙ ap (λ (x : Option Figure). first_cause ((is_none x, Form) ∷ ds)) none
+    into : (o : Option (List ℕ)) → first_cause ((is_none o, Missing) ∷ (is_none (figure_fetched form n o), Form) ∷ ds) ≡ Some Form
+        → (bytes : List ℕ) × (o ≡ Some bytes) × (figure_in form n bytes ≡ None)
+    into None e = absurd (no_form e)
+    into (Some bytes) e = (bytes, refl, none_stated (figure_in form n bytes) e)
 
 pub form_is : (fetched : Fetches) (scene : Scene) (line name file : List ℕ) (form : LoadForm) → command line ≡ Ok (commands.Load name form file)
     → ((step fetched scene line).reply ≡ No Form) ↔ ((fetches scene line ≡ true) × ((bytes : List ℕ) × (fetched file ≡ Some bytes) × (figure_in form (dim_of scene name) bytes ≡ None)))
-form_is fetched scene line name file form e = (into, from)
-  where
-    before : List (Bool × Code)
-    before = load_causes scene name form
-
-    behind : List (Bool × Code)
-    behind = file_causes fetched scene name form file
-
-    into : (step fetched scene line).reply ≡ No Form → (fetches scene line ≡ true) × ((bytes : List ℕ) × (fetched file ≡ Some bytes) × (figure_in form (dim_of scene name) bytes ≡ None))
-    into q =
-        let first = refused_so (first_cause (before ++ behind)) scene (load_made fetched scene name form file) Form refl (sym (ap (λ (t : Turn). t.reply) (load_step fetched scene line name file form e)) ∙ q) in
-        let parts = by_file is_form before behind Form refl refl first in
-        (load_fetches scene line name file form e ∙ parts.0, form_bytes form (dim_of scene name) (fetched file) (value_causes (with_figure scene name (loaded fetched scene name form file))) refl parts.1)
-
-    from : (fetches scene line ≡ true) × ((bytes : List ℕ) × (fetched file ≡ Some bytes) × (figure_in form (dim_of scene name) bytes ≡ None)) → (step fetched scene line).reply ≡ No Form
-    from h =
-        let (bytes, found, none) = h.1 in
-        ap (λ (t : Turn). t.reply) (load_step fetched scene line name file form e)
-        ∙ ap (λ (o : Option Code). (unless_refused o scene (load_made fetched scene name form file)).reply)
-        (first_back before behind (no_cause (first_cause before) (sym (load_fetches scene line name file form e) ∙ h.0))
-        ∙ form_first form (dim_of scene name) (fetched file) bytes (value_causes (with_figure scene name (loaded fetched scene name form file))) found none)
-
--- what refuses another figure for an input of its dimension is none of the first causes
-no_figure_cause : (a b c : Bool) → a ≡ true → b ≡ true → c ≡ true → first_cause ((not a, Name) ∷ (not b, Kind) ∷ (not c, Dim) ∷ []) ≡ None
-no_figure_cause true true true h k m = refl
-no_figure_cause false b c h k m = absurd (false≢true h)
-no_figure_cause true false c h k m = absurd (false≢true k)
-no_figure_cause true true false h k m = absurd (false≢true m)
-
--- a file that states a figure is there
-found_there : (form : LoadForm) (n : ℕ) (got : Option (List ℕ)) → is_none (figure_fetched form n got) ≡ false → is_none got ≡ false
-found_there form n None h = absurd (false≢true (sym h))
-found_there form n (Some bytes) h = refl
-
-behind_none : (a b : Bool) (ds : List (Bool × Code)) → a ≡ false → b ≡ false → first_cause ((a, Missing) ∷ (b, Form) ∷ ds) ≡ first_cause ds
-behind_none false false ds h k = refl
-behind_none true b ds h k = absurd (false≢true (sym h))
-behind_none false true ds h k = absurd (false≢true (sym k))
-
--- a load that finds a figure is refused by what refuses the edit that puts the figure in the place of that of its name
-pub load_refusal : (fetched : Fetches) (scene : Scene) (name file : List ℕ) (form : LoadForm) → IsWell scene → first_cause (load_causes scene name form) ≡ None
-    → is_none (figure_fetched form (dim_of scene name) (fetched file)) ≡ false
-    → first_cause (load_causes scene name form ++ file_causes fetched scene name form file) ≡ refusal scene (Replace name (loaded fetched scene name form file))
-load_refusal fetched scene name file form well clear found =
-    first_back (load_causes scene name form) (file_causes fetched scene name form file) clear
-    ∙ behind_none (is_none (fetched file)) (is_none (figure_fetched form (dim_of scene name) (fetched file))) left
-    (found_there form (dim_of scene name) (fetched file) found) found
-    ∙ sym (first_back (figure_causes scene name new) left (no_figure_cause (stands scene name) (is_input scene name) (new.dim == dim_of scene name) standing input same))
-  where
-    new : Figure
-    new = loaded fetched scene name form file
-
-    left : List (Bool × Code)
-    left = value_causes (with_figure scene name new)
-
-    range : List (Bool × Code)
-    range = (not (form_in_range form), Range) ∷ []
-
-    dims : List (Bool × Code)
-    dims = (not (form_fits form (dim_of scene name)), Dim) ∷ range
-
-    kind : List (Bool × Code)
-    kind = (not (is_input scene name), Kind) ∷ dims
-
-    second : first_cause kind ≡ None
-    second = none_later (not (stands scene name), Name) kind clear
-
-    standing : stands scene name ≡ true
-    standing = not_false (stands scene name) (none_first (not (stands scene name), Name) kind clear)
-
-    input : is_input scene name ≡ true
-    input = not_false (is_input scene name) (none_first (not (is_input scene name), Kind) dims second)
-
-    fits : form_fits form (dim_of scene name) ≡ true
-    fits = not_false (form_fits form (dim_of scene name)) (none_first (not (form_fits form (dim_of scene name)), Dim) range (none_later (not (is_input scene name), Kind) dims second))
-
-    same : (new.dim == dim_of scene name) ≡ true
-    same = (Decides-eqb new.dim (dim_of scene name)).1 (loaded_set form (dim_of scene name) (fetched file) (standing_dim scene well name standing) fits).0
+form_is fetched scene line name file form e =
+    let code = by_file fetched scene line name file form is_form Form e refl refl in
+    let file_law = form_cause form (dim_of scene name) (fetched file) (value_causes (with_figure scene name (loaded fetched scene name form file))) refl in
+    (λ q. ((code.0 q).0, file_law.0 (code.0 q).1), λ h. code.1 (h.0, file_law.1 h.1))

@@ -203,6 +203,3 @@ differ_push (e ∷ es) new d s =
     (not_true (list_any (has_name e.name) es) (and_first (not (list_any (has_name e.name) es)) (names_differ es) d))
     (or-false (has_name e.name new) ∙ name_sym e.name new.name ∙ parts.0)))
     (differ_push es new (and_second (not (list_any (has_name e.name) es)) (names_differ es) d) (stands_any es new.name ∙ parts.1))
-
-pub all_push : (p : Entry → Bool) (es : List Entry) (new : Entry) → list_all p es ≡ true → p new ≡ true → list_all p (es ++ new ∷ []) ≡ true
-all_push p es new h k = list_all-append p es (new ∷ []) ∙ and_both (list_all p es) (p new && true) h (and_both (p new) true k refl)

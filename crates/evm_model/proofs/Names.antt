@@ -20,9 +20,6 @@ name_itself a = equal_names a a refl
 pub name_sym : (a b : List ℕ) → bytes_eq a b ≡ bytes_eq b a
 name_sym a b = same_tests (bytes_eq a b) (bytes_eq b a) (λ h. equal_names b a (sym (same_name a b h))) (λ h. equal_names a b (sym (same_name b a h)))
 
-pub other_names : (a b : List ℕ) → bytes_eq a b ≡ false → a ≡ b → ⊥
-other_names a b d e = false≢true (sym d ∙ equal_names a b e)
-
 pub different_names : (a b : List ℕ) → (a ≡ b → ⊥) → bytes_eq a b ≡ false
 different_names a b n = refuted (bytes_eq a b) (λ h. n (same_name a b h))
 
@@ -70,11 +67,6 @@ neither false b d e = e
 pub or_second : (a b : Bool) → (a || b) ≡ true → a ≡ false → b ≡ true
 or_second true b h d = absurd (false≢true (sym d))
 or_second false b h d = h
-
--- the first of two where the second does not hold
-pub or_first : (a b : Bool) → (a || b) ≡ true → b ≡ false → a ≡ true
-or_first true b h d = refl
-or_first false b h d = absurd (false≢true (sym d ∙ h))
 
 -- another second of two
 pub or_map : (a b c : Bool) → (a || b) ≡ true → (b ≡ true → c ≡ true) → (a || c) ≡ true

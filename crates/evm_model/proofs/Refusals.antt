@@ -11,7 +11,7 @@ use Rattle.evm_script.specs.declared.formula.Formula.TheVariants.{Or, And, Sub, 
 use Rattle.evm_model.specs.Figures.{Figure, box_fits, low_of, high_of}
 use Rattle.evm_model.specs.Orders.{is_among}
 use Rattle.evm_model.specs.Scene.{Scene, stands, dim_of, is_input, is_read, reaches, operands, is_dim, is_axis, with_figure, with_formula, formula_dim, formula_fits, formula_in_range, all_stay, IsWell}
-use Rattle.evm_model.specs.Edits.{Input, Replace, Def, Drop, Code, Name, Taken, Kind, Used, Cycle, Dim, Range, first_cause, lacks_operand, closes_cycle, misses_dim, box_causes, figure_causes, def_causes, value_causes, with_box, refusal}
+use Rattle.evm_model.specs.Edits.{Input, Replace, Def, Drop, Code, Name, Taken, Kind, Used, Cycle, Dim, Range, first_cause, lacks_operand, closes_cycle, misses_dim, box_causes, figure_causes, edit_causes, value_causes, with_box, refusal}
 use Rattle.evm_model.proofs.Names.{or_none, among_here, passes_none, not_true, not_false}
 use Rattle.evm_model.proofs.Stays.{is_before, before_both}
 use Rattle.evm_model.proofs.WellEdits.{standing_dim}
@@ -30,19 +30,14 @@ none_later c cs e = elim c.0 as (λ b. cond b (Some c.1) (first_cause cs) ≡ No
     no_some : Some c.1 ≡ None → ⊥
     no_some q = cc
 
--- where none of two lists of causes holds, none of either does
-pub none_front : (cs ds : List (Bool × Code)) → first_cause (cs ++ ds) ≡ None → first_cause cs ≡ None
-none_front [] ds e = refl
-none_front (c ∷ cs) ds e =
-    elim c.0 as (λ b. cond b (Some c.1) (first_cause (cs ++ ds)) ≡ None → cond b (Some c.1) (first_cause cs) ≡ None) [ true ↦ λ k. k | false ↦ λ k. none_front cs ds k ] e
+-- no cause of a list holds
+abbrev pub NoneHolds : List (Bool × Code) → Type 0
+NoneHolds [] = Unit {0}
+NoneHolds (c ∷ cs) = (c.0 ≡ false) × NoneHolds cs
 
-pub none_back : (cs ds : List (Bool × Code)) → first_cause (cs ++ ds) ≡ None → first_cause ds ≡ None
-none_back [] ds e = e
-none_back (c ∷ cs) ds e = none_back cs ds (none_later c (cs ++ ds) e)
-
--- no formula of the scene that an edit leaves makes a place out of the limits
-pub stay_left : (cs : List (Bool × Code)) (left : Scene) → first_cause (cs ++ value_causes left) ≡ None → all_stay left ≡ true
-stay_left cs left r = not_false (all_stay left) (none_first (not (all_stay left), Range) [] (none_back cs (value_causes left) r))
+pub none_holds : (causes : List (Bool × Code)) → first_cause causes ≡ None → NoneHolds causes
+none_holds [] e = tt
+none_holds (c ∷ cs) e = (none_first c cs e, none_holds cs (none_later c cs e))
 
 -- a new input that is not refused
 pub record IsNewInput (scene : Scene) (name : List ℕ) (dim : ℤ) : Type 0 where
@@ -50,10 +45,7 @@ pub record IsNewInput (scene : Scene) (name : List ℕ) (dim : ℤ) : Type 0 whe
   pub fits : is_dim dim ≡ true
 
 pub new_input : (scene : Scene) (name : List ℕ) (dim : ℤ) → refusal scene (Input name dim) ≡ None → IsNewInput scene name dim
-new_input scene name dim r = record {
-  fresh = none_first (stands scene name, Taken) ((not (is_dim dim), Dim) ∷ []) r;
-  fits = not_false (is_dim dim) (none_first (not (is_dim dim), Dim) [] (none_later (stands scene name, Taken) ((not (is_dim dim), Dim) ∷ []) r));
-}
+new_input scene name dim r = let h = none_holds (edit_causes scene (Input name dim)) r in record { fresh = h.0; fits = not_false (is_dim dim) h.1.0 }
 
 -- a box for an input that is not refused, and is put together with the input's figure in this way
 pub record IsBoxFor (op : Figure → Figure → Figure) (scene : Scene) (name : List ℕ) (nums : List ℤ) : Type 0 where
@@ -65,32 +57,15 @@ pub record IsBoxFor (op : Figure → Figure → Figure) (scene : Scene) (name : 
 
 pub box_for : (op : Figure → Figure → Figure) (scene : Scene) (name : List ℕ) (nums : List ℤ)
     → first_cause (box_causes scene name nums ++ value_causes (with_box op scene name nums)) ≡ None → IsBoxFor op scene name nums
-box_for op scene name nums r = record {
-  standing = not_false (stands scene name) (none_first (not (stands scene name), Name) kind first);
-  input = not_false (is_input scene name) (none_first (not (is_input scene name), Kind) dim second);
-  numbers = (Decides-eqb (length nums) (2 * dim_of scene name)).0 (not_false (length nums == 2 * dim_of scene name) (none_first (not (length nums == 2 * dim_of scene name), Dim) range third));
-  fits = not_false (box_fits (low_of (dim_of scene name) nums) (high_of (dim_of scene name) nums))
-      (none_first (not (box_fits (low_of (dim_of scene name) nums) (high_of (dim_of scene name) nums)), Range) [] (none_later (not (length nums == 2 * dim_of scene name), Dim) range third));
-  stay = stay_left (box_causes scene name nums) (with_box op scene name nums) r;
-}
-  where
-    first : first_cause (box_causes scene name nums) ≡ None
-    first = none_front (box_causes scene name nums) (value_causes (with_box op scene name nums)) r
-
-    range : List (Bool × Code)
-    range = (not (box_fits (low_of (dim_of scene name) nums) (high_of (dim_of scene name) nums)), Range) ∷ []
-
-    dim : List (Bool × Code)
-    dim = (not (length nums == 2 * dim_of scene name), Dim) ∷ range
-
-    kind : List (Bool × Code)
-    kind = (not (is_input scene name), Kind) ∷ dim
-
-    second : first_cause kind ≡ None
-    second = none_later (not (stands scene name), Name) kind first
-
-    third : first_cause dim ≡ None
-    third = none_later (not (is_input scene name), Kind) dim second
+box_for op scene name nums r =
+    let h = none_holds (box_causes scene name nums ++ value_causes (with_box op scene name nums)) r in
+    record {
+      standing = not_false (stands scene name) h.0;
+      input = not_false (is_input scene name) h.1.0;
+      numbers = (Decides-eqb (length nums) (2 * dim_of scene name)).0 (not_false (length nums == 2 * dim_of scene name) h.1.1.0);
+      fits = not_false (box_fits (low_of (dim_of scene name) nums) (high_of (dim_of scene name) nums)) h.1.1.1.0;
+      stay = not_false (all_stay (with_box op scene name nums)) h.1.1.1.1.0;
+    }
 
 -- another figure for an input that is not refused
 pub record IsReplacement (scene : Scene) (name : List ℕ) (figure : Figure) : Type 0 where
@@ -100,25 +75,14 @@ pub record IsReplacement (scene : Scene) (name : List ℕ) (figure : Figure) : T
   pub stay : all_stay (with_figure scene name figure) ≡ true
 
 pub replacement : (scene : Scene) (name : List ℕ) (figure : Figure) → refusal scene (Replace name figure) ≡ None → IsReplacement scene name figure
-replacement scene name figure r = record {
-  standing = not_false (stands scene name) (none_first (not (stands scene name), Name) kind first);
-  input = not_false (is_input scene name) (none_first (not (is_input scene name), Kind) dims second);
-  dim = (Decides-eqb figure.dim (dim_of scene name)).0
-      (not_false (figure.dim == dim_of scene name) (none_first (not (figure.dim == dim_of scene name), Dim) [] (none_later (not (is_input scene name), Kind) dims second)));
-  stay = stay_left (figure_causes scene name figure) (with_figure scene name figure) r;
-}
-  where
-    first : first_cause (figure_causes scene name figure) ≡ None
-    first = none_front (figure_causes scene name figure) (value_causes (with_figure scene name figure)) r
-
-    dims : List (Bool × Code)
-    dims = (not (figure.dim == dim_of scene name), Dim) ∷ []
-
-    kind : List (Bool × Code)
-    kind = (not (is_input scene name), Kind) ∷ dims
-
-    second : first_cause kind ≡ None
-    second = none_later (not (stands scene name), Name) kind first
+replacement scene name figure r =
+    let h = none_holds (edit_causes scene (Replace name figure)) r in
+    record {
+      standing = not_false (stands scene name) h.0;
+      input = not_false (is_input scene name) h.1.0;
+      dim = (Decides-eqb figure.dim (dim_of scene name)).0 (not_false (figure.dim == dim_of scene name) h.1.1.0);
+      stay = not_false (all_stay (with_figure scene name figure)) h.1.1.1.0;
+    }
 
 -- a definition that is not refused
 pub record IsDefinition (scene : Scene) (name : List ℕ) (formula : Formula) : Type 0 where
@@ -132,59 +96,31 @@ pub record IsDefinition (scene : Scene) (name : List ℕ) (formula : Formula) : 
 
 pub definition : (scene : Scene) (name : List ℕ) (formula : Formula) → refusal scene (Def name formula) ≡ None → IsDefinition scene name formula
 definition scene name formula r = record {
-  stand = λ o m. stand_at o (or_none (bytes_eq o name) (reaches scene o name) (passes_none (λ z. bytes_eq z name || reaches scene z name) (operands formula) no_cycle o m)).0
-      (passes_none (λ z. not (bytes_eq z name) && not (stands scene z)) (operands formula) no_lack o m);
-  formula_kind = none_first (is_input scene name, Kind) cycle second;
-  free = λ o m. let parts = or_none (bytes_eq o name) (reaches scene o name) (passes_none (λ z. bytes_eq z name || reaches scene z name) (operands formula) no_cycle o m) in before_both scene name o parts.0 parts.1;
-  fits = not_false (formula_fits scene formula) (or_none (not (formula_fits scene formula)) (stands scene name && not (formula_dim scene formula == dim_of scene name)) no_miss).0;
-  dim = λ h. (Decides-eqb (formula_dim scene formula) (dim_of scene name)).0
-      (same_dims (stands scene name) (formula_dim scene formula == dim_of scene name) h (or_none (not (formula_fits scene formula)) (stands scene name && not (formula_dim scene formula == dim_of scene name)) no_miss).1);
-  range = not_false (formula_in_range scene formula) (none_first (not (formula_in_range scene formula), Range) [] fifth);
-  stay = stay_left (def_causes scene name formula) (with_formula scene name formula) r;
+  stand = λ o m. stand_at o (apart_at o m).0 (passes_none (λ z. not (bytes_eq z name) && not (stands scene z)) (operands formula) h.0 o m);
+  formula_kind = h.1.0;
+  free = λ o m. before_both scene name o (apart_at o m).0 (apart_at o m).1;
+  fits = not_false (formula_fits scene formula) dims.0;
+  dim = λ k. (Decides-eqb (formula_dim scene formula) (dim_of scene name)).0
+      (same_dims (stands scene name) (formula_dim scene formula == dim_of scene name) k dims.1);
+  range = not_false (formula_in_range scene formula) h.1.1.1.1.0;
+  stay = not_false (all_stay (with_formula scene name formula)) h.1.1.1.1.1.0;
 }
   where
-    first : first_cause (def_causes scene name formula) ≡ None
-    first = none_front (def_causes scene name formula) (value_causes (with_formula scene name formula)) r
+    h : NoneHolds (edit_causes scene (Def name formula))
+    h = none_holds (edit_causes scene (Def name formula)) r
 
-    range : List (Bool × Code)
-    range = (not (formula_in_range scene formula), Range) ∷ []
+    apart_at : (o : List ℕ) → is_among o (operands formula) ≡ true → (bytes_eq o name ≡ false) × (reaches scene o name ≡ false)
+    apart_at o m = or_none (bytes_eq o name) (reaches scene o name) (passes_none (λ z. bytes_eq z name || reaches scene z name) (operands formula) h.1.1.0 o m)
 
-    dims : List (Bool × Code)
-    dims = (misses_dim scene name formula, Dim) ∷ range
-
-    cycle : List (Bool × Code)
-    cycle = (closes_cycle scene name formula, Cycle) ∷ dims
-
-    kind : List (Bool × Code)
-    kind = (is_input scene name, Kind) ∷ cycle
-
-    second : first_cause kind ≡ None
-    second = none_later (lacks_operand scene name formula, Name) kind first
-
-    third : first_cause cycle ≡ None
-    third = none_later (is_input scene name, Kind) cycle second
-
-    fourth : first_cause dims ≡ None
-    fourth = none_later (closes_cycle scene name formula, Cycle) dims third
-
-    fifth : first_cause range ≡ None
-    fifth = none_later (misses_dim scene name formula, Dim) range fourth
-
-    no_lack : lacks_operand scene name formula ≡ false
-    no_lack = none_first (lacks_operand scene name formula, Name) kind first
-
-    no_cycle : closes_cycle scene name formula ≡ false
-    no_cycle = none_first (closes_cycle scene name formula, Cycle) dims third
-
-    no_miss : misses_dim scene name formula ≡ false
-    no_miss = none_first (misses_dim scene name formula, Dim) range fourth
+    dims : (not (formula_fits scene formula) ≡ false) × ((stands scene name && not (formula_dim scene formula == dim_of scene name)) ≡ false)
+    dims = or_none (not (formula_fits scene formula)) (stands scene name && not (formula_dim scene formula == dim_of scene name)) h.1.1.1.0
 
     stand_at : (o : List ℕ) → bytes_eq o name ≡ false → (not (bytes_eq o name) && not (stands scene o)) ≡ false → stands scene o ≡ true
-    stand_at o d h = not_false (stands scene o) (sym (ap (λ (b : Bool). not b && not (stands scene o)) d) ∙ h)
+    stand_at o d k = not_false (stands scene o) (sym (ap (λ (b : Bool). not b && not (stands scene o)) d) ∙ k)
 
     same_dims : (a b : Bool) → a ≡ true → (a && not b) ≡ false → b ≡ true
-    same_dims true b h k = not_false b k
-    same_dims false b h k = absurd (false≢true h)
+    same_dims true b k l = not_false b l
+    same_dims false b k l = absurd (false≢true k)
 
 -- a drop that is not refused
 pub record IsDrop (scene : Scene) (name : List ℕ) : Type 0 where
@@ -192,10 +128,7 @@ pub record IsDrop (scene : Scene) (name : List ℕ) : Type 0 where
   pub unread : is_read scene name ≡ false
 
 pub drops : (scene : Scene) (name : List ℕ) → refusal scene (Drop name) ≡ None → IsDrop scene name
-drops scene name r = record {
-  standing = not_false (stands scene name) (none_first (not (stands scene name), Name) ((is_read scene name, Used) ∷ []) r);
-  unread = none_first (is_read scene name, Used) [] (none_later (not (stands scene name), Name) ((is_read scene name, Used) ∷ []) r);
-}
+drops scene name r = let h = none_holds (edit_causes scene (Drop name)) r in record { standing = not_false (stands scene name) h.0; unread = h.1.0 }
 
 -- the dimension that a command states
 pub dim_stated : (dim : ℤ) → is_dim dim ≡ true → is_dim (pos (nat_abs dim)) ≡ true
