@@ -3,8 +3,8 @@ use Rattle.std.proofs.Common.{◌≡◌, ℕ, zero, suc, ◌+◌, ◌≤◌, Boo
 use Rattle.std.specs.Prelude.{nat_abs}
 use Rattle.std.specs.List.{list_any}
 use Rattle.evm_script.specs.declared.formula.Formula.{Formula}
-use Rattle.evm_script.specs.declared.formula.Formula.TheVariants.{Or, And, Sub, Xor, Box, Shift, Mirror, Swap, Clip, Slice, Proj, Lift}
-use Rattle.evm_model.specs.Figures.{Figure, nothing, or_of, and_of, sub_of, xor_of, shift_of, shift_stays, mirror_of, swap_of, clip_of, slice_of, proj_of, lift_of, lift_stays}
+use Rattle.evm_model.specs.Figures.{Figure, nothing}
+use Rattle.evm_model.specs.Formulas.{Parts, Both, Block, Shaped, boolean_of, shape_of, shape_stays, parts_of, parts_operands, parts_value, parts_stay}
 use Rattle.evm_model.specs.Orders.{is_among, AllSeen, Ordered}
 use Rattle.evm_model.specs.Scene.{What, Given, Made, Entry, Scene, entry_of, stands, operands, what_operands, entry_operands, operands_of, formula_value, formula_stays, what_value, what_stays, entry_value, value_within, value, reaches_within, reaches}
 use Rattle.evm_model.proofs.Names.{by_test, by_among, not_both, or_left, or_right, among_here, among_later, among_none, apart_back, any_among, none_passes}
@@ -58,34 +58,22 @@ along reads P step seen (y ∷ ys) h done x there =
 both_same : (op : Figure → Figure → Figure) (a b : List ℕ) (g h : List ℕ → Figure) → ((o : List ℕ) → is_among o (a ∷ b ∷ []) ≡ true → g o ≡ h o) → op (g a) (g b) ≡ op (h a) (h b)
 both_same op a b g h same = ap (λ (x : Figure). op x (g b)) (same a (among_here a (b ∷ []))) ∙ ap (λ (y : Figure). op (h a) y) (same b (among_later b a (b ∷ []) (among_here b [])))
 
-pub formula_same : (f : Formula) (g h : List ℕ → Figure) → ((o : List ℕ) → is_among o (operands f) ≡ true → g o ≡ h o) → formula_value f g ≡ formula_value f h
-formula_same (Or a b) g h same = both_same or_of a b g h same
-formula_same (And a b) g h same = both_same and_of a b g h same
-formula_same (Sub a b) g h same = both_same sub_of a b g h same
-formula_same (Xor a b) g h same = both_same xor_of a b g h same
-formula_same (Box dim nums) g h same = refl
-formula_same (Shift a nums) g h same = ap (shift_of nums) (same a (among_here a []))
-formula_same (Mirror a axis) g h same = ap (mirror_of (nat_abs axis)) (same a (among_here a []))
-formula_same (Swap a i j) g h same = ap (swap_of (nat_abs i) (nat_abs j)) (same a (among_here a []))
-formula_same (Clip a nums) g h same = ap (clip_of nums) (same a (among_here a []))
-formula_same (Slice a axis at) g h same = ap (slice_of (nat_abs axis) at) (same a (among_here a []))
-formula_same (Proj a axis) g h same = ap (proj_of (nat_abs axis)) (same a (among_here a []))
-formula_same (Lift a axis lo hi) g h same = ap (lift_of (nat_abs axis) lo hi) (same a (among_here a []))
+parts_same : (p : Parts) (g h : List ℕ → Figure) → ((o : List ℕ) → is_among o (parts_operands p) ≡ true → g o ≡ h o) → parts_value p g ≡ parts_value p h
+parts_same (Both op a b) g h same = both_same (boolean_of op) a b g h same
+parts_same (Block dim nums) g h same = refl
+parts_same (Shaped shape a) g h same = ap (shape_of shape) (same a (among_here a []))
 
--- nor does the test of what it moves
+pub formula_same : (f : Formula) (g h : List ℕ → Figure) → ((o : List ℕ) → is_among o (operands f) ≡ true → g o ≡ h o) → formula_value f g ≡ formula_value f h
+formula_same f g h same = parts_same (parts_of f) g h same
+
+-- nor does the test of the places that it makes
+parts_stay_same : (p : Parts) (g h : List ℕ → Figure) → ((o : List ℕ) → is_among o (parts_operands p) ≡ true → g o ≡ h o) → parts_stay p g ≡ parts_stay p h
+parts_stay_same (Both op a b) g h same = refl
+parts_stay_same (Block dim nums) g h same = refl
+parts_stay_same (Shaped shape a) g h same = ap (shape_stays shape) (same a (among_here a []))
+
 pub formula_stays_same : (f : Formula) (g h : List ℕ → Figure) → ((o : List ℕ) → is_among o (operands f) ≡ true → g o ≡ h o) → formula_stays f g ≡ formula_stays f h
-formula_stays_same (Or a b) g h same = refl
-formula_stays_same (And a b) g h same = refl
-formula_stays_same (Sub a b) g h same = refl
-formula_stays_same (Xor a b) g h same = refl
-formula_stays_same (Box dim nums) g h same = refl
-formula_stays_same (Shift a nums) g h same = ap (shift_stays nums) (same a (among_here a []))
-formula_stays_same (Mirror a axis) g h same = refl
-formula_stays_same (Swap a i j) g h same = refl
-formula_stays_same (Clip a nums) g h same = refl
-formula_stays_same (Slice a axis at) g h same = refl
-formula_stays_same (Proj a axis) g h same = refl
-formula_stays_same (Lift a axis lo hi) g h same = ap (lift_stays (nat_abs axis) lo hi) (same a (among_here a []))
+formula_stays_same f g h same = parts_stay_same (parts_of f) g h same
 
 pub what_stays_same : (what : What) (g h : List ℕ → Figure) → ((o : List ℕ) → is_among o (what_operands what) ≡ true → g o ≡ h o) → what_stays what g ≡ what_stays what h
 what_stays_same (Given cells) g h same = refl

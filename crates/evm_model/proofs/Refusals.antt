@@ -7,7 +7,7 @@ use Rattle.std.proofs.lemmas.Bool.Decides.{Decides-eqb}
 use Rattle.evm_cells.proofs.Xor.{and_first, and_second, and_both}
 use Rattle.evm_cells.proofs.Coords.{le_yes, le_is}
 use Rattle.evm_script.specs.declared.formula.Formula.{Formula}
-use Rattle.evm_script.specs.declared.formula.Formula.TheVariants.{Or, And, Sub, Xor, Box, Shift, Mirror, Swap, Clip, Slice, Proj, Lift}
+use Rattle.evm_model.specs.Formulas.{Shape, Slice, Proj, Lift, shape_dim, shape_fits, Parts, Both, Block, Shaped, parts_of, parts_operands, parts_dim, parts_fit}
 use Rattle.evm_model.specs.Figures.{Figure, box_fits, low_of, high_of}
 use Rattle.evm_model.specs.Orders.{is_among}
 use Rattle.evm_model.specs.Scene.{Scene, stands, dim_of, is_input, is_read, reaches, operands, is_dim, is_axis, with_figure, with_formula, formula_dim, formula_fits, formula_in_range, all_stay, IsWell}
@@ -150,20 +150,17 @@ dim_more d h k =
     let six = eqb-false d 6 (not_true (d == 6) k) in
     and_both (int_le (pos 2) (pos (d + 1))) (int_le (pos (d + 1)) (pos 6)) (le_yes (pos 2) (pos (d + 1)) (omega (arith, int_facts, low))) (le_yes (pos (d + 1)) (pos 6) (omega (arith, int_facts, high, six)))
 
+shape_dim_fits : (shape : Shape) (d : ℕ) → is_dim (pos d) ≡ true → shape_fits shape d ≡ true → is_dim (pos (shape_dim shape d)) ≡ true
+shape_dim_fits (Slice axis at) d h fits = dim_less d h (and_first (not (d == 2)) (is_axis d axis) fits)
+shape_dim_fits (Proj axis) d h fits = dim_less d h (and_first (not (d == 2)) (is_axis d axis) fits)
+shape_dim_fits (Lift axis lo hi) d h fits = dim_more d h (and_first (not (d == 6)) (is_axis (d + 1) axis) fits)
+shape_dim_fits _ d h fits = h
+
 -- the dimension of a formula whose operands stand
 pub formula_dim_fits : (scene : Scene) → IsWell scene → (f : Formula) → ((o : List ℕ) → is_among o (operands f) ≡ true → stands scene o ≡ true) → formula_fits scene f ≡ true → is_dim (pos (formula_dim scene f)) ≡ true
-formula_dim_fits scene well (Or a b) stand fits = standing_dim scene well a (stand a (among_here a (b ∷ [])))
-formula_dim_fits scene well (And a b) stand fits = standing_dim scene well a (stand a (among_here a (b ∷ [])))
-formula_dim_fits scene well (Sub a b) stand fits = standing_dim scene well a (stand a (among_here a (b ∷ [])))
-formula_dim_fits scene well (Xor a b) stand fits = standing_dim scene well a (stand a (among_here a (b ∷ [])))
-formula_dim_fits scene well (Box dim nums) stand fits = dim_stated dim (and_first (is_dim dim) (length nums == 2 * nat_abs dim) fits)
-formula_dim_fits scene well (Shift a nums) stand fits = standing_dim scene well a (stand a (among_here a []))
-formula_dim_fits scene well (Mirror a axis) stand fits = standing_dim scene well a (stand a (among_here a []))
-formula_dim_fits scene well (Swap a i j) stand fits = standing_dim scene well a (stand a (among_here a []))
-formula_dim_fits scene well (Clip a nums) stand fits = standing_dim scene well a (stand a (among_here a []))
-formula_dim_fits scene well (Slice a axis at) stand fits =
-    dim_less (dim_of scene a) (standing_dim scene well a (stand a (among_here a []))) (and_first (not (dim_of scene a == 2)) (is_axis (dim_of scene a) axis) fits)
-formula_dim_fits scene well (Proj a axis) stand fits =
-    dim_less (dim_of scene a) (standing_dim scene well a (stand a (among_here a []))) (and_first (not (dim_of scene a == 2)) (is_axis (dim_of scene a) axis) fits)
-formula_dim_fits scene well (Lift a axis lo hi) stand fits =
-    dim_more (dim_of scene a) (standing_dim scene well a (stand a (among_here a []))) (and_first (not (dim_of scene a == 6)) (is_axis (dim_of scene a + 1) axis) fits)
+formula_dim_fits scene well f stand fits = by (parts_of f) stand fits
+  where
+    by : (p : Parts) → ((o : List ℕ) → is_among o (parts_operands p) ≡ true → stands scene o ≡ true) → parts_fit p (dim_of scene) ≡ true → is_dim (pos (parts_dim p (dim_of scene))) ≡ true
+    by (Both op a b) k h = standing_dim scene well a (k a (among_here a (b ∷ [])))
+    by (Block dim nums) k h = dim_stated dim (and_first (is_dim dim) (length nums == 2 * nat_abs dim) h)
+    by (Shaped shape a) k h = shape_dim_fits shape (dim_of scene a) (standing_dim scene well a (k a (among_here a []))) h

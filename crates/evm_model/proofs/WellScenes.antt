@@ -23,7 +23,8 @@ use Rattle.evm_cells.specs.Limits.{is_point_coord}
 use Rattle.evm_cells.specs.Shapes.{lift}
 use Rattle.evm_cells.proofs.Xor.{and_first, and_second, and_both}
 use Rattle.evm_script.specs.declared.formula.Formula.{Formula}
-use Rattle.evm_script.specs.declared.formula.Formula.TheVariants.{Or, And, Sub, Xor, Box, Shift, Mirror, Swap, Clip, Slice, Proj, Lift}
+use Rattle.evm_script.specs.declared.formula.Formula.TheVariants as formulas
+use Rattle.evm_model.specs.Formulas.{Boolean, Or, And, Sub, Xor, boolean_of, Shape, Shift, Mirror, Swap, Clip, Slice, Proj, Lift, shape_of, shape_dim, shape_fits, shape_in_range, Parts, Both, Block, Shaped, parts_of, parts_operands, parts_value, parts_dim, parts_fit, parts_are_sound}
 use Rattle.evm_model.specs.Figures.{Figure, nothing, box_of, box_at, box_fits, low_of, high_of, or_of, and_of, sub_of, xor_of, shift_of, shift_stays, mirror_of, swap_of, clip_of, slice_of, proj_of, lift_of, lift_stays}
 use Rattle.evm_model.specs.Orders.{is_among}
 use Rattle.evm_model.specs.Scene.{What, Given, Made, Entry, Scene, has_name, entry_of, stands, dim_of, dim_of_entry, operands, what_operands, entry_operands, operands_of, formula_value, what_value, what_stays, entry_value, value, reaches, is_dim, is_axis, is_range, formula_dim, formula_fits, formula_in_range, names_differ, what_is_sound, IsWell, reaches_within, IsOrderOf}
@@ -67,42 +68,19 @@ well_through scene well x y z h t = through (length scene.entries) x h
         (λ q. subst (λ (v : List ℕ). reaches scene v z ≡ true) (sym (same_name o y q)) t)
         (λ q. through n o q))) k
 
--- the dimension of a formula, at those of its operands
-abbrev formula_dim_at : Formula → (List ℕ → ℕ) → ℕ
-formula_dim_at (Or a b) g = g a
-formula_dim_at (And a b) g = g a
-formula_dim_at (Sub a b) g = g a
-formula_dim_at (Xor a b) g = g a
-formula_dim_at (Box dim nums) g = nat_abs dim
-formula_dim_at (Shift a nums) g = g a
-formula_dim_at (Mirror a axis) g = g a
-formula_dim_at (Swap a i j) g = g a
-formula_dim_at (Clip a nums) g = g a
-formula_dim_at (Slice a axis at) g = g a - 1
-formula_dim_at (Proj a axis) g = g a - 1
-formula_dim_at (Lift a axis lo hi) g = g a + 1
-
+-- the dimension of what a name stands for, at those of its operands
 abbrev what_dim_at : ℕ → What → (List ℕ → ℕ) → ℕ
 what_dim_at n (Given cells) g = n
-what_dim_at n (Made f) g = formula_dim_at f g
+what_dim_at n (Made f) g = parts_dim (parts_of f) g
 
 abbrev entry_dim_at : Option Entry → (List ℕ → ℕ) → ℕ
 entry_dim_at None g = 0
 entry_dim_at (Some e) g = what_dim_at e.dim e.what g
 
-formula_dim_same : (f : Formula) (g h : List ℕ → ℕ) → ((o : List ℕ) → is_among o (operands f) ≡ true → g o ≡ h o) → formula_dim_at f g ≡ formula_dim_at f h
-formula_dim_same (Or a b) g h same = same a (among_here a (b ∷ []))
-formula_dim_same (And a b) g h same = same a (among_here a (b ∷ []))
-formula_dim_same (Sub a b) g h same = same a (among_here a (b ∷ []))
-formula_dim_same (Xor a b) g h same = same a (among_here a (b ∷ []))
-formula_dim_same (Box dim nums) g h same = refl
-formula_dim_same (Shift a nums) g h same = same a (among_here a [])
-formula_dim_same (Mirror a axis) g h same = same a (among_here a [])
-formula_dim_same (Swap a i j) g h same = same a (among_here a [])
-formula_dim_same (Clip a nums) g h same = same a (among_here a [])
-formula_dim_same (Slice a axis at) g h same = ap (λ (k : ℕ). k - 1) (same a (among_here a []))
-formula_dim_same (Proj a axis) g h same = ap (λ (k : ℕ). k - 1) (same a (among_here a []))
-formula_dim_same (Lift a axis lo hi) g h same = ap (λ (k : ℕ). k + 1) (same a (among_here a []))
+parts_dim_same : (p : Parts) (g h : List ℕ → ℕ) → ((o : List ℕ) → is_among o (parts_operands p) ≡ true → g o ≡ h o) → parts_dim p g ≡ parts_dim p h
+parts_dim_same (Both op a b) g h same = same a (among_here a (b ∷ []))
+parts_dim_same (Block dim nums) g h same = refl
+parts_dim_same (Shaped shape a) g h same = ap (shape_dim shape) (same a (among_here a []))
 
 entry_dim_same : (e : Option Entry) (g h : List ℕ → ℕ) → ((o : List ℕ) → is_among o (entry_operands e) ≡ true → g o ≡ h o) → entry_dim_at e g ≡ entry_dim_at e h
 entry_dim_same None g h same = refl
@@ -110,7 +88,7 @@ entry_dim_same (Some e) g h same = by e.what same
   where
     by : (what : What) → ((o : List ℕ) → is_among o (what_operands what) ≡ true → g o ≡ h o) → what_dim_at e.dim what g ≡ what_dim_at e.dim what h
     by (Given cells) k = refl
-    by (Made f) k = formula_dim_same f g h k
+    by (Made f) k = parts_dim_same (parts_of f) g h k
 
 -- the parts of what is sound
 pub sound_fits : (scene : Scene) (n : ℕ) (f : Formula) → what_is_sound scene n (Made f) ≡ true → formula_fits scene f ≡ true
@@ -149,6 +127,42 @@ axis_at : (n : ℕ) (axis : ℤ) → is_axis n axis ≡ true → nat_abs axis �
 axis_at n (pos a) h = let l = le_is (pos a) (pos n) (and_second (int_le (pos 1) (pos a)) (int_le (pos a) (pos n)) h) in omega (arith, int_facts, l)
 axis_at n (negsuc a) h = absurd (false≢true h)
 
+-- Booleans have the dimension of their first figure, and shapes that of theirs
+boolean_dim : (op : Boolean) (a b : Figure) → (boolean_of op a b).dim ≡ a.dim
+unfolding or_of and_of sub_of xor_of
+boolean_dim Or a b = refl
+boolean_dim And a b = refl
+boolean_dim Sub a b = refl
+boolean_dim Xor a b = refl
+
+shape_dim_of : (shape : Shape) (a : Figure) → (shape_of shape a).dim ≡ shape_dim shape a.dim
+unfolding shift_of mirror_of swap_of clip_of slice_of proj_of lift_of
+shape_dim_of (Shift nums) a = refl
+shape_dim_of (Mirror axis) a = refl
+shape_dim_of (Swap i j) a = refl
+shape_dim_of (Clip nums) a = refl
+shape_dim_of (Slice axis at) a = refl
+shape_dim_of (Proj axis) a = refl
+shape_dim_of (Lift axis lo hi) a = refl
+
+-- both are cell sets
+boolean_set : (op : Boolean) (a b : Figure) → IsCellSet (boolean_of op a b).dim (boolean_of op a b).cells
+unfolding or_of and_of sub_of xor_of
+boolean_set Or a b = (cell_sets a.dim a.cells b.cells).0
+boolean_set And a b = (cell_sets a.dim a.cells b.cells).1
+boolean_set Sub a b = (cell_sets a.dim a.cells b.cells).2
+boolean_set Xor a b = (cell_sets a.dim a.cells b.cells).3
+
+shape_set : (shape : Shape) (a : Figure) → shape_fits shape a.dim ≡ true → IsCellSet a.dim a.cells → IsCellSet (shape_of shape a).dim (shape_of shape a).cells
+unfolding shift_of mirror_of swap_of clip_of slice_of proj_of lift_of clip
+shape_set (Shift nums) a h set = cell_set-shift a.dim nums a.cells ((Decides-eqb (length nums) a.dim).0 h) set
+shape_set (Mirror axis) a h set = cell_set-mirror a.dim (nat_abs axis - 1) a.cells
+shape_set (Swap i j) a h set = cell_set-swap a.dim (nat_abs i - 1) (nat_abs j - 1) a.cells
+shape_set (Clip nums) a h set = (cell_sets a.dim a.cells (box_cells a.dim (low_of a.dim nums) (high_of a.dim nums))).1
+shape_set (Slice axis at) a h set = cell_set-slice (a.dim - 1) (nat_abs axis - 1) at a.cells
+shape_set (Proj axis) a h set = cell_set-proj (a.dim - 1) (nat_abs axis - 1) a.cells
+shape_set (Lift axis lo hi) a h set = cell_set-lift (a.dim + 1) (nat_abs axis - 1) lo hi a.cells
+
 module _ (scene : Scene) (well : IsWell scene) where
   abbrev order_of_names : (order : List (List ℕ)) × IsOrderOf scene order
   order_of_names = well_order scene well
@@ -166,50 +180,27 @@ module _ (scene : Scene) (well : IsWell scene) where
   dim_fixed : (x : List ℕ) → dim_of scene x ≡ entry_dim_at (entry_of scene.entries x) (dim_of scene)
   dim_fixed x = by (entry_of scene.entries x) refl
     where
-      by_formula : (n : ℕ) (f : Formula) → formula_dim scene f ≡ n → n ≡ formula_dim_at f (dim_of scene)
-      by_formula n (Or a b) h = sym h
-      by_formula n (And a b) h = sym h
-      by_formula n (Sub a b) h = sym h
-      by_formula n (Xor a b) h = sym h
-      by_formula n (Box dim nums) h = sym h
-      by_formula n (Shift a nums) h = sym h
-      by_formula n (Mirror a axis) h = sym h
-      by_formula n (Swap a i j) h = sym h
-      by_formula n (Clip a nums) h = sym h
-      by_formula n (Slice a axis at) h = sym h
-      by_formula n (Proj a axis) h = sym h
-      by_formula n (Lift a axis lo hi) h = sym h
-
       by_what : (n : ℕ) (what : What) → what_is_sound scene n what ≡ true → n ≡ what_dim_at n what (dim_of scene)
       by_what n (Given cells) h = refl
-      by_what n (Made f) h = by_formula n f (sound_dim scene n f h)
+      by_what n (Made f) h = sym (sound_dim scene n f h)
 
       by : (o : Option Entry) → entry_of scene.entries x ≡ o → dim_of_entry o ≡ entry_dim_at o (dim_of scene)
       by None q = refl
       by (Some e) q = by_what e.dim e.what (found_sound x e q)
 
   value_dim_fixed : (x : List ℕ) → (value scene x).dim ≡ entry_dim_at (entry_of scene.entries x) (λ o. (value scene o).dim)
-  unfolding nothing or_of and_of sub_of xor_of shift_of mirror_of swap_of clip_of slice_of proj_of lift_of
+  unfolding nothing
   value_dim_fixed x = ap (λ (a : Figure). a.dim) (well_value scene well x) ∙ by (entry_of scene.entries x) refl
     where
-      by_formula : (n : ℕ) (f : Formula) → what_is_sound scene n (Made f) ≡ true → (formula_value f (value scene)).dim ≡ formula_dim_at f (λ o. (value scene o).dim)
-      by_formula n (Or a b) h = refl
-      by_formula n (And a b) h = refl
-      by_formula n (Sub a b) h = refl
-      by_formula n (Xor a b) h = refl
-      by_formula n (Box dim nums) h =
-          box_dim (nat_abs dim) nums ((Decides-eqb (length nums) (2 * nat_abs dim)).0 (and_second (is_dim dim) (length nums == 2 * nat_abs dim) (sound_fits scene n (Box dim nums) h)))
-      by_formula n (Shift a nums) h = refl
-      by_formula n (Mirror a axis) h = refl
-      by_formula n (Swap a i j) h = refl
-      by_formula n (Clip a nums) h = refl
-      by_formula n (Slice a axis at) h = refl
-      by_formula n (Proj a axis) h = refl
-      by_formula n (Lift a axis lo hi) h = refl
+      by_parts : (p : Parts) → parts_fit p (dim_of scene) ≡ true → (parts_value p (value scene)).dim ≡ parts_dim p (λ o. (value scene o).dim)
+      by_parts (Both op a b) h = boolean_dim op (value scene a) (value scene b)
+      by_parts (Block dim nums) h =
+          box_dim (nat_abs dim) nums ((Decides-eqb (length nums) (2 * nat_abs dim)).0 (and_second (is_dim dim) (length nums == 2 * nat_abs dim) h))
+      by_parts (Shaped shape a) h = shape_dim_of shape (value scene a)
 
       by_what : (n : ℕ) (what : What) → what_is_sound scene n what ≡ true → (what_value n what (value scene)).dim ≡ what_dim_at n what (λ o. (value scene o).dim)
       by_what n (Given cells) h = refl
-      by_what n (Made f) h = by_formula n f h
+      by_what n (Made f) h = by_parts (parts_of f) (sound_fits scene n f h)
 
       by : (o : Option Entry) → entry_of scene.entries x ≡ o → (entry_value o (value scene)).dim ≡ entry_dim_at o (λ o. (value scene o).dim)
       by None q = refl
@@ -228,34 +219,23 @@ module _ (scene : Scene) (well : IsWell scene) where
 
   -- each value is a cell set
   pub value_cells : (x : List ℕ) → IsCellSet (value scene x).dim (value scene x).cells
-  unfolding nothing ascending or_of and_of sub_of xor_of box_of shift_of mirror_of swap_of clip_of slice_of proj_of lift_of clip
+  unfolding nothing ascending box_of
   value_cells x =
       by_test (stands scene x)
       (λ l. along (operands_of scene.entries) (λ y. IsCellSet (value scene y).dim (value scene y).cells) from_operands [] order_of_names.0 order_of_names.1.ordered (λ y m. among_none y m) x (order_of_names.1.whole x ∙ l))
       (λ out. from_operands x (λ o m. among_none o (subst (λ (t : Option Entry). is_among o (entry_operands t) ≡ true) (none_stands scene.entries x out) m)))
     where
-      by_formula : (n : ℕ) (f : Formula) → what_is_sound scene n (Made f) ≡ true → ((o : List ℕ) → is_among o (operands f) ≡ true → IsCellSet (value scene o).dim (value scene o).cells)
-          → IsCellSet (formula_value f (value scene)).dim (formula_value f (value scene)).cells
-      by_formula n (Or a b) h sets = (cell_sets (value scene a).dim (value scene a).cells (value scene b).cells).0
-      by_formula n (And a b) h sets = (cell_sets (value scene a).dim (value scene a).cells (value scene b).cells).1
-      by_formula n (Sub a b) h sets = (cell_sets (value scene a).dim (value scene a).cells (value scene b).cells).2
-      by_formula n (Xor a b) h sets = (cell_sets (value scene a).dim (value scene a).cells (value scene b).cells).3
-      by_formula n (Box dim nums) h sets = cell_set-box (length (take (nat_abs dim) nums)) (take (nat_abs dim) nums) (drop (nat_abs dim) nums)
-      by_formula n (Shift a nums) h sets =
-          cell_set-shift (value scene a).dim nums (value scene a).cells
-          ((Decides-eqb (length nums) (dim_of scene a)).0 (sound_fits scene n (Shift a nums) h) ∙ value_dim a)
-          (sets a (among_here a []))
-      by_formula n (Mirror a axis) h sets = cell_set-mirror (value scene a).dim (nat_abs axis - 1) (value scene a).cells
-      by_formula n (Swap a i j) h sets = cell_set-swap (value scene a).dim (nat_abs i - 1) (nat_abs j - 1) (value scene a).cells
-      by_formula n (Clip a nums) h sets = (cell_sets (value scene a).dim (value scene a).cells (box_cells (value scene a).dim (low_of (value scene a).dim nums) (high_of (value scene a).dim nums))).1
-      by_formula n (Slice a axis at) h sets = cell_set-slice ((value scene a).dim - 1) (nat_abs axis - 1) at (value scene a).cells
-      by_formula n (Proj a axis) h sets = cell_set-proj ((value scene a).dim - 1) (nat_abs axis - 1) (value scene a).cells
-      by_formula n (Lift a axis lo hi) h sets = cell_set-lift ((value scene a).dim + 1) (nat_abs axis - 1) lo hi (value scene a).cells
+      by_parts : (p : Parts) → parts_fit p (dim_of scene) ≡ true → ((o : List ℕ) → is_among o (parts_operands p) ≡ true → IsCellSet (value scene o).dim (value scene o).cells)
+          → IsCellSet (parts_value p (value scene)).dim (parts_value p (value scene)).cells
+      by_parts (Both op a b) h sets = boolean_set op (value scene a) (value scene b)
+      by_parts (Block dim nums) h sets = cell_set-box (length (take (nat_abs dim) nums)) (take (nat_abs dim) nums) (drop (nat_abs dim) nums)
+      by_parts (Shaped shape a) h sets =
+          shape_set shape (value scene a) (subst (λ (n : ℕ). shape_fits shape n ≡ true) (value_dim a) h) (sets a (among_here a []))
 
       by_what : (n : ℕ) (what : What) → what_is_sound scene n what ≡ true → ((o : List ℕ) → is_among o (what_operands what) ≡ true → IsCellSet (value scene o).dim (value scene o).cells)
           → IsCellSet (what_value n what (value scene)).dim (what_value n what (value scene)).cells
       by_what n (Given cells) h sets = record { ascends = and_first (ascending cells) (list_all (is_cell n) cells) h; cells = and_second (ascending cells) (list_all (is_cell n) cells) h }
-      by_what n (Made f) h sets = by_formula n f h sets
+      by_what n (Made f) h sets = by_parts (parts_of f) (sound_fits scene n f h) sets
 
       from_operands : (y : List ℕ) → ((o : List ℕ) → is_among o (operands_of scene.entries y) ≡ true → IsCellSet (value scene o).dim (value scene o).cells) → IsCellSet (value scene y).dim (value scene y).cells
       from_operands y sets = subst (λ (a : Figure). IsCellSet a.dim a.cells) (sym (well_value scene well y)) (by (entry_of scene.entries y) refl)
@@ -265,14 +245,14 @@ module _ (scene : Scene) (well : IsWell scene) where
           by (Some e) q = by_what e.dim e.what (found_sound y e q) (λ o m. sets o (subst (λ (t : Option Entry). is_among o (entry_operands t) ≡ true) (sym q) m))
 
   -- a shift has each cell of its operand, moved
-  pub shift_cells : (x o : List ℕ) (nums : List ℤ) (e : Entry) → entry_of scene.entries x ≡ Some e → e.what ≡ Made (Shift o nums) → (value scene x).cells ≡ map (added nums) (value scene o).cells
+  pub shift_cells : (x o : List ℕ) (nums : List ℤ) (e : Entry) → entry_of scene.entries x ≡ Some e → e.what ≡ Made (formulas.Shift o nums) → (value scene x).cells ≡ map (added nums) (value scene o).cells
   unfolding shift_of shift_stays shift shift_fits
   shift_cells x o nums e q f =
       ap (λ (a : Figure). a.cells) (well_value scene well x ∙ ap (λ (t : Option Entry). entry_value t (value scene)) q ∙ ap (λ (w : What). what_value e.dim w (value scene)) f)
       ∙ all_moved (is_cell (value scene o).dim) (added nums) (value scene o).cells (sym (ap (λ (w : What). what_stays w (value scene)) f) ∙ found_stays x e q)
 
   -- a lift has each cell of its operand, at each of its heights
-  pub lift_cells : (x o : List ℕ) (axis lo hi k : ℤ) (c : List ℤ) (e : Entry) → entry_of scene.entries x ≡ Some e → e.what ≡ Made (Lift o axis lo hi)
+  pub lift_cells : (x o : List ℕ) (axis lo hi k : ℤ) (c : List ℤ) (e : Entry) → entry_of scene.entries x ≡ Some e → e.what ≡ Made (formulas.Lift o axis lo hi)
       → length c ≡ dim_of scene o → has (value scene x).cells (with_at (nat_abs axis - 1) k c) ≡ (has (value scene o).cells c && (int_le lo k && int_lt k hi))
   unfolding lift_of lift_stays lift
   lift_cells x o axis lo hi k c e q f long =
@@ -280,7 +260,7 @@ module _ (scene : Scene) (well : IsWell scene) where
       ∙ has-cells n (λ d. has S (without i d) && (int_le lo (get_or d i (pos 0)) && int_lt (get_or d i (pos 0)) hi)) p
       ∙ ap (λ (b : Bool). is_cell n p && b) (ap₂ (λ (d : List ℤ) (j : ℤ). has S d && (int_le lo j && int_lt j hi)) (without-with_at i k c inside) (coord-with_at i k c inside))
       ∙ absorb (is_cell n p) (has S c && (int_le lo k && int_lt k hi))
-      (λ h. lifted_cell n i lo hi k S c (and_second (is_point_coord m lo && is_point_coord m hi) (int_lt lo hi) (sound_range scene e.dim (Lift o axis lo hi) sound))
+      (λ h. lifted_cell n i lo hi k S c (and_second (is_point_coord m lo && is_point_coord m hi) (int_lt lo hi) (sound_range scene e.dim (formulas.Lift o axis lo hi) sound))
       (sym (ap (λ (w : What). what_stays w (value scene)) f) ∙ found_stays x e q)
       (and_first (has S c) (int_le lo k && int_lt k hi) h) (and_second (has S c) (int_le lo k && int_lt k hi) h))
     where
@@ -299,11 +279,11 @@ module _ (scene : Scene) (well : IsWell scene) where
       p : List ℤ
       p = with_at i k c
 
-      sound : what_is_sound scene e.dim (Made (Lift o axis lo hi)) ≡ true
+      sound : what_is_sound scene e.dim (Made (formulas.Lift o axis lo hi)) ≡ true
       sound = subst (λ (w : What). what_is_sound scene e.dim w ≡ true) f (found_sound x e q)
 
       inside : i ≤ length c
-      inside = omega (arith, long, axis_at m axis (and_second (not (dim_of scene o == 6)) (is_axis m axis) (sound_fits scene e.dim (Lift o axis lo hi) sound)))
+      inside = omega (arith, long, axis_at m axis (and_second (not (dim_of scene o == 6)) (is_axis m axis) (sound_fits scene e.dim (formulas.Lift o axis lo hi) sound)))
 
 -- what each entry that is found passes, all entries pass, where names differ
 pub all_entries : (p : Entry → Bool) (es : List Entry) → names_differ es ≡ true → ((x : List ℕ) (e : Entry) → entry_of es x ≡ Some e → p e ≡ true) → list_all p es ≡ true
@@ -327,20 +307,12 @@ both_sound s u n a b same =
     ∙ ap (λ (k : ℕ). (dim_of u a == k) && true && (dim_of u a == n)) (same b (among_later b a (b ∷ []) (among_here b [])))
 
 -- what is sound depends on the dimensions of the operands alone
-pub formula_sound_same : (s u : Scene) (n : ℕ) (f : Formula) → ((o : List ℕ) → is_among o (operands f) ≡ true → dim_of s o ≡ dim_of u o) → what_is_sound s n (Made f) ≡ what_is_sound u n (Made f)
-formula_sound_same s u n (Or a b) same = both_sound s u n a b same
-formula_sound_same s u n (And a b) same = both_sound s u n a b same
-formula_sound_same s u n (Sub a b) same = both_sound s u n a b same
-formula_sound_same s u n (Xor a b) same = both_sound s u n a b same
-formula_sound_same s u n (Box dim nums) same = refl
-formula_sound_same s u n (Shift a nums) same = ap (λ (k : ℕ). (length nums == k) && is_shift k nums && (k == n)) (same a (among_here a []))
-formula_sound_same s u n (Mirror a axis) same = ap (λ (k : ℕ). is_axis k axis && true && (k == n)) (same a (among_here a []))
-formula_sound_same s u n (Swap a i j) same = ap (λ (k : ℕ). (is_axis k i && is_axis k j) && true && (k == n)) (same a (among_here a []))
-formula_sound_same s u n (Clip a nums) same = ap (λ (k : ℕ). (length nums == 2 * k) && box_fits (low_of k nums) (high_of k nums) && (k == n)) (same a (among_here a []))
-formula_sound_same s u n (Slice a axis at) same = ap (λ (k : ℕ). (not (k == 2) && is_axis k axis) && is_cell_coord k at && (k - 1 == n)) (same a (among_here a []))
-formula_sound_same s u n (Proj a axis) same = ap (λ (k : ℕ). (not (k == 2) && is_axis k axis) && true && (k - 1 == n)) (same a (among_here a []))
-formula_sound_same s u n (Lift a axis lo hi) same = ap (λ (k : ℕ). (not (k == 6) && is_axis (k + 1) axis) && is_range (k + 1) lo hi && (k + 1 == n)) (same a (among_here a []))
+parts_sound_same : (s u : Scene) (n : ℕ) (p : Parts) → ((o : List ℕ) → is_among o (parts_operands p) ≡ true → dim_of s o ≡ dim_of u o)
+    → parts_are_sound n p (dim_of s) ≡ parts_are_sound n p (dim_of u)
+parts_sound_same s u n (Both op a b) same = both_sound s u n a b same
+parts_sound_same s u n (Block dim nums) same = refl
+parts_sound_same s u n (Shaped shape a) same = ap (λ (k : ℕ). shape_fits shape k && shape_in_range shape k && (shape_dim shape k == n)) (same a (among_here a []))
 
 pub what_sound_same : (s u : Scene) (n : ℕ) (what : What) → ((o : List ℕ) → is_among o (what_operands what) ≡ true → dim_of s o ≡ dim_of u o) → what_is_sound s n what ≡ what_is_sound u n what
 what_sound_same s u n (Given cells) same = refl
-what_sound_same s u n (Made f) same = formula_sound_same s u n f same
+what_sound_same s u n (Made f) same = parts_sound_same s u n (parts_of f) same

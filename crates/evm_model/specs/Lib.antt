@@ -1,5 +1,6 @@
 pub mod Figures
 pub mod Files
+pub mod Formulas
 pub mod Orders
 pub mod Scene
 pub mod Edits

@@ -5,8 +5,9 @@ use Rattle.evm_cells.specs.Places.{ascending}
 use Rattle.evm_cells.specs.Limits.{is_cell, is_cell_coord, is_point_coord}
 use Rattle.evm_cells.specs.Shapes.{is_shift}
 use Rattle.evm_script.specs.declared.formula.Formula.{Formula}
-use Rattle.evm_script.specs.declared.formula.Formula.TheVariants.{Or, And, Sub, Xor, Box, Shift, Mirror, Swap, Clip, Slice, Proj, Lift}
-use Rattle.evm_model.specs.Figures.{Figure, nothing, box_at, box_fits, low_of, high_of, or_of, and_of, sub_of, xor_of, shift_of, shift_stays, mirror_of, swap_of, clip_of, slice_of, proj_of, lift_of, lift_stays}
+use Rattle.evm_model.specs.Figures.{Figure, nothing}
+use Rattle.evm_model.specs.Formulas.{parts_of, parts_dim, parts_fit, parts_in_range, parts_are_sound}
+pub use Rattle.evm_model.specs.Formulas.{operands, formula_value, formula_stays, is_dim, is_axis, is_range}
 use Rattle.evm_model.specs.Orders.{is_among, Ordered}
 
 -- what a name stands for: the cells of an input, or a formula
@@ -62,21 +63,6 @@ entry_is_given (Some e) = what_is_given e.what
 abbrev pub is_input : Scene → List ℕ → Bool
 is_input scene name = entry_is_given (entry_of scene.entries name)
 
--- the names that a formula reads: its operands
-abbrev pub operands : Formula → List (List ℕ)
-operands (Or a b) = a ∷ b ∷ []
-operands (And a b) = a ∷ b ∷ []
-operands (Sub a b) = a ∷ b ∷ []
-operands (Xor a b) = a ∷ b ∷ []
-operands (Box dim nums) = []
-operands (Shift a nums) = a ∷ []
-operands (Mirror a axis) = a ∷ []
-operands (Swap a i j) = a ∷ []
-operands (Clip a nums) = a ∷ []
-operands (Slice a axis at) = a ∷ []
-operands (Proj a axis) = a ∷ []
-operands (Lift a axis lo hi) = a ∷ []
-
 -- the names that an entry reads; an input reads none
 abbrev pub what_operands : What → List (List ℕ)
 what_operands (Given cells) = []
@@ -89,36 +75,6 @@ entry_operands (Some e) = what_operands e.what
 -- the names that a name reads
 abbrev pub operands_of : List Entry → List ℕ → List (List ℕ)
 operands_of entries name = entry_operands (entry_of entries name)
-
--- a formula at the values of its operands
-abbrev pub formula_value : Formula → (List ℕ → Figure) → Figure
-formula_value (Or a b) at = or_of (at a) (at b)
-formula_value (And a b) at = and_of (at a) (at b)
-formula_value (Sub a b) at = sub_of (at a) (at b)
-formula_value (Xor a b) at = xor_of (at a) (at b)
-formula_value (Box dim nums) at = box_at (nat_abs dim) nums
-formula_value (Shift a nums) at = shift_of nums (at a)
-formula_value (Mirror a axis) at = mirror_of (nat_abs axis) (at a)
-formula_value (Swap a i j) at = swap_of (nat_abs i) (nat_abs j) (at a)
-formula_value (Clip a nums) at = clip_of nums (at a)
-formula_value (Slice a axis height) at = slice_of (nat_abs axis) height (at a)
-formula_value (Proj a axis) at = proj_of (nat_abs axis) (at a)
-formula_value (Lift a axis lo hi) at = lift_of (nat_abs axis) lo hi (at a)
-
--- whether a formula makes no place that is no cell of its operand's value; a shift and a lift alone can
-abbrev pub formula_stays : Formula → (List ℕ → Figure) → Bool
-formula_stays (Or a b) at = true
-formula_stays (And a b) at = true
-formula_stays (Sub a b) at = true
-formula_stays (Xor a b) at = true
-formula_stays (Box dim nums) at = true
-formula_stays (Shift a nums) at = shift_stays nums (at a)
-formula_stays (Mirror a axis) at = true
-formula_stays (Swap a i j) at = true
-formula_stays (Clip a nums) at = true
-formula_stays (Slice a axis height) at = true
-formula_stays (Proj a axis) at = true
-formula_stays (Lift a axis lo hi) at = lift_stays (nat_abs axis) lo hi (at a)
 
 -- the value of what a name stands for, at the values of its operands
 abbrev pub what_value : ℕ → What → (List ℕ → Figure) → Figure
@@ -180,20 +136,9 @@ with_figure scene name new = record scene { entries = with_entry scene.entries n
 abbrev pub with_new : Scene → List ℕ → ℕ → What → Scene
 with_new scene name dim what = record scene { entries = scene.entries ++ record { name = name; dim = dim; what = what } ∷ [] }
 
--- the dimension that a formula has, by that of its first operand
+-- the dimension of a formula
 abbrev pub formula_dim : Scene → Formula → ℕ
-formula_dim scene (Or a b) = dim_of scene a
-formula_dim scene (And a b) = dim_of scene a
-formula_dim scene (Sub a b) = dim_of scene a
-formula_dim scene (Xor a b) = dim_of scene a
-formula_dim scene (Box dim nums) = nat_abs dim
-formula_dim scene (Shift a nums) = dim_of scene a
-formula_dim scene (Mirror a axis) = dim_of scene a
-formula_dim scene (Swap a i j) = dim_of scene a
-formula_dim scene (Clip a nums) = dim_of scene a
-formula_dim scene (Slice a axis at) = dim_of scene a - 1
-formula_dim scene (Proj a axis) = dim_of scene a - 1
-formula_dim scene (Lift a axis lo hi) = dim_of scene a + 1
+formula_dim scene formula = parts_dim (parts_of formula) (dim_of scene)
 
 -- the scene with this formula under a name: in the name's place, or at the end where the name does not stand
 abbrev pub with_formula : Scene → List ℕ → Formula → Scene
@@ -206,48 +151,13 @@ with_formula scene name formula =
 abbrev pub without_name : Scene → List ℕ → Scene
 without_name scene name = record scene { entries = without_entry scene.entries name }
 
--- a dimension that a named solid may have
-abbrev pub is_dim : ℤ → Bool
-is_dim n = int_le (pos 2) n && int_le n (pos 6)
-
--- an axis of a solid of this dimension
-abbrev pub is_axis : ℕ → ℤ → Bool
-is_axis n axis = int_le (pos 1) axis && int_le axis (pos n)
-
--- the operands have one dimension; a box states a dimension and twice as many numbers; and the shapes state numbers and axes
--- that the operand's dimension allows, and make no solid of dimension 1 or 7
+-- a formula fits the dimensions of its operands
 abbrev pub formula_fits : Scene → Formula → Bool
-formula_fits scene (Or a b) = dim_of scene a == dim_of scene b
-formula_fits scene (And a b) = dim_of scene a == dim_of scene b
-formula_fits scene (Sub a b) = dim_of scene a == dim_of scene b
-formula_fits scene (Xor a b) = dim_of scene a == dim_of scene b
-formula_fits scene (Box dim nums) = is_dim dim && length nums == 2 * nat_abs dim
-formula_fits scene (Shift a nums) = length nums == dim_of scene a
-formula_fits scene (Mirror a axis) = is_axis (dim_of scene a) axis
-formula_fits scene (Swap a i j) = is_axis (dim_of scene a) i && is_axis (dim_of scene a) j
-formula_fits scene (Clip a nums) = length nums == 2 * dim_of scene a
-formula_fits scene (Slice a axis at) = not (dim_of scene a == 2) && is_axis (dim_of scene a) axis
-formula_fits scene (Proj a axis) = not (dim_of scene a == 2) && is_axis (dim_of scene a) axis
-formula_fits scene (Lift a axis lo hi) = not (dim_of scene a == 6) && is_axis (dim_of scene a + 1) axis
-
--- heights that a prism can run between
-abbrev pub is_range : ℕ → ℤ → ℤ → Bool
-is_range n lo hi = is_point_coord n lo && is_point_coord n hi && int_lt lo hi
+formula_fits scene formula = parts_fit (parts_of formula) (dim_of scene)
 
 -- the numbers that a formula states are in their limits
 abbrev pub formula_in_range : Scene → Formula → Bool
-formula_in_range scene (Or a b) = true
-formula_in_range scene (And a b) = true
-formula_in_range scene (Sub a b) = true
-formula_in_range scene (Xor a b) = true
-formula_in_range scene (Box dim nums) = box_fits (low_of (nat_abs dim) nums) (high_of (nat_abs dim) nums)
-formula_in_range scene (Shift a nums) = is_shift (dim_of scene a) nums
-formula_in_range scene (Mirror a axis) = true
-formula_in_range scene (Swap a i j) = true
-formula_in_range scene (Clip a nums) = box_fits (low_of (dim_of scene a) nums) (high_of (dim_of scene a) nums)
-formula_in_range scene (Slice a axis at) = is_cell_coord (dim_of scene a) at
-formula_in_range scene (Proj a axis) = true
-formula_in_range scene (Lift a axis lo hi) = is_range (dim_of scene a + 1) lo hi
+formula_in_range scene formula = parts_in_range (parts_of formula) (dim_of scene)
 
 -- no name stands twice
 abbrev pub names_differ : List Entry → Bool
@@ -257,7 +167,7 @@ names_differ (e ∷ es) = not (list_any (has_name e.name) es) && names_differ es
 -- an input of this dimension holds a cell set; a formula fits, its numbers are in range, and this is its dimension
 abbrev pub what_is_sound : Scene → ℕ → What → Bool
 what_is_sound scene dim (Given cells) = ascending cells && list_all (is_cell dim) cells
-what_is_sound scene dim (Made formula) = formula_fits scene formula && formula_in_range scene formula && formula_dim scene formula == dim
+what_is_sound scene dim (Made formula) = parts_are_sound dim (parts_of formula) (dim_of scene)
 
 -- what each scene of a run keeps: names differ, dimensions are those that named solids have, each entry is sound, no formula
 -- makes a place that is no cell, operands stand, and no name reaches itself
