@@ -1,5 +1,5 @@
 -- Whole numbers in a row, and the sums over them that the two ways between cells and vertices come to, on one axis.
-use Rattle.std.proofs.Common.{◌≡◌, ℕ, zero, suc, ◌+◌, ◌*◌, ◌^◌, ◌≤◌, Bool, true, false, ◌&&◌, ◌||◌, ℤ, pos, neg_ℤ, ◌+ℤ◌, ◌-ℤ◌, ◌≤ℤ◌, ◌<ℤ◌, int_le, int_lt, refl, sym, ap, ap₂, ◌∙◌, arith, int_eq, nat_le, nat_eq}
+use Rattle.std.proofs.Common.{◌≡◌, ℕ, zero, suc, ◌+◌, ◌*◌, ◌^◌, ◌≤◌, ◌<◌, if◌then◌else◌, Bool, true, false, ◌&&◌, ◌||◌, ℤ, pos, neg_ℤ, ◌+ℤ◌, ◌-ℤ◌, ◌≤ℤ◌, ◌<ℤ◌, int_le, int_lt, refl, sym, ap, ap₂, ◌∙◌, arith, int_eq, nat_le, nat_eq}
 use Rattle.std.specs.List.{list_any, list_all}
 use Rattle.std.proofs.lemmas.Int.{ints as int_facts, by_lt_z}
 use Rattle.std.proofs.lemmas.Bool.{false≢true}
@@ -234,6 +234,17 @@ limit-first = omega arith
 pub limit-small : (n : ℕ) → limit n ≤ 2 ^ 30
 limit-small zero = limit-first
 limit-small (suc n) = let a = limit-small n in let b = limit-falls n in omega arith
+
+-- there is a coordinate on either side
+pub limit-some : (n : ℕ) → 0 < limit n
+unfolding limit
+limit-some n = at (nat_le n 3) (nat_eq n 4) (nat_eq n 5)
+  where
+    at : (a b c : Bool) → 0 < (if a then limit 0 else if b then limit 4 else if c then limit 5 else limit 6)
+    at true b c = omega arith
+    at false true c = omega arith
+    at false false true = omega arith
+    at false false false = omega arith
 
 pub cell_coord-falls : (n : ℕ) (x : ℤ) → is_cell_coord (suc n) x ≡ true → is_cell_coord n x ≡ true
 cell_coord-falls n x h = let (a, b) = cell_is (suc n) x h in let l = limit-falls n in cell_yes n x (omega (arith, int_facts)) (omega (arith, int_facts))

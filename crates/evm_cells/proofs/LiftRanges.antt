@@ -73,7 +73,7 @@ cells_within m n V v a = all_members same before strict_places (list_all (is_cel
         cell_yes m (coord j c) (le_is (neg_ℤ (pos (limit m))) (coord j c) low) (lt_is (coord j c) (pos (limit m)) high))
 
 -- a lift is in range exactly where its base is within the limit of its dimension
-fits_within : (n i : ℕ) (lo hi : ℤ) (S : List (List ℤ)) → IsCellSet n S → is_point_coord (suc n) lo ≡ true → is_point_coord (suc n) hi ≡ true → int_lt lo hi ≡ true
+pub fits_within : (n i : ℕ) (lo hi : ℤ) (S : List (List ℤ)) → IsCellSet n S → is_point_coord (suc n) lo ≡ true → is_point_coord (suc n) hi ≡ true → int_lt lo hi ≡ true
     → lift_fits (suc n) i lo hi S ≡ list_all (list_all (is_cell_coord (suc n))) S
 unfolding lift_fits
 fits_within n i lo hi S s a b m = same_tests (lift_fits (suc n) i lo hi S) (list_all (list_all (is_cell_coord (suc n))) S)

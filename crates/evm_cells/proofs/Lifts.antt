@@ -221,7 +221,7 @@ has-evm-lift n i lo hi S p l h e m f =
 -- ---- projection
 
 -- some element that passes, and a test that an element passes
-some_passing : {X : Type 0} (p : X → Bool) (xs : List X) → list_any p xs ≡ true → (x : X) × (p x ≡ true) × ((q : X → Bool) → q x ≡ true → list_any q xs ≡ true)
+pub some_passing : {X : Type 0} (p : X → Bool) (xs : List X) → list_any p xs ≡ true → (x : X) × (p x ≡ true) × ((q : X → Bool) → q x ≡ true → list_any q xs ≡ true)
 some_passing p [] h = absurd (false≢true h)
 some_passing p (x ∷ xs) h = ⊎_elim
     (λ e. (x, e, λ q f. or_left (q x) (list_any q xs) f))

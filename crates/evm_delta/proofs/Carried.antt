@@ -1,11 +1,11 @@
 -- The change of a shape: what it is made of, and what it carries.
-use Rattle.std.proofs.Common.{◌≡◌, ℕ, Bool, true, false, List, [], ℤ, refl, sym, ap, ap₂, ◌∙◌}
+use Rattle.std.proofs.Common.{◌≡◌, ℕ, ◌+◌, ◌-◌, Bool, true, false, List, [], ℤ, ◌-ℤ◌, nat_abs, refl, sym, ap, ap₂, ◌∙◌}
 use Rattle.std.specs.List.{list_all}
 use Rattle.std.proofs.lemmas.Bool.{true≢false}
-use Rattle.evm_cells.specs.Places.{same, before, has}
-use Rattle.evm_cells.specs.Limits.{is_cell, IsCellSet}
+use Rattle.evm_cells.specs.Places.{same, before, has, with_at}
+use Rattle.evm_cells.specs.Limits.{is_cell, ints, IsCellSet}
 use Rattle.evm_cells.specs.Booleans.{xor, xor_cells}
-use Rattle.evm_cells.specs.Shapes.{added, shift_fits}
+use Rattle.evm_cells.specs.Shapes.{added, shift_fits, lift_fits}
 use Rattle.evm_cells.specs.Vertices.{evm, cells}
 use Rattle.evm_cells.proofs.Xor.{xor-false, xor_self}
 use Rattle.evm_cells.proofs.Order.{same_tests}
@@ -96,26 +96,32 @@ shape_change_carries op a da s f e =
 
 -- ---- range
 
--- where the moved cells of S are cells, those of S xor T are exactly where those of T are
-shift_range : (n : ℕ) (d : List ℤ) (S T : List (List ℤ)) → IsCellSet n S → IsCellSet n T → shift_fits n d S ≡ true → shift_fits n d T ≡ shift_fits n d (xor_cells n S T)
-unfolding shift_fits xor
-shift_range n d S T s t fits =
+-- where all of S pass, all of S xor T pass exactly where all of T do
+all_range : (n : ℕ) (passes : List ℤ → Bool) (S T : List (List ℤ)) → IsCellSet n S → IsCellSet n T → list_all passes S ≡ true → list_all passes T ≡ list_all passes (xor_cells n S T)
+unfolding xor
+all_range n passes S T s t fits =
     same_tests (list_all passes T) (list_all passes (xor_cells n S T))
     (λ h. all_members same before strict_places passes (xor_cells n S T)
     (λ c m. by_place c (has S c) refl (λ e. member_passes passes T c h (other (has S c) (has T c) e (sym (has-xor_cells n S T c s t) ∙ has-any (xor_cells n S T) c ∙ m)))))
     (λ h. all_members same before strict_places passes T
     (λ c m. by_place c (has S c) refl (λ e. member_passes passes (xor_cells n S T) c h (has-xor_cells n S T c s t ∙ ap₂ xor e (has-any T c ∙ m)))))
   where
-    passes : List ℤ → Bool
-    passes c = is_cell n (added d c)
-
     other : (x y : Bool) → x ≡ false → xor x y ≡ true → y ≡ true
     other true y e h = absurd (true≢false e)
     other false y e h = h
 
-    by_place : (c : List ℤ) (b : Bool) → has S c ≡ b → (has S c ≡ false → is_cell n (added d c) ≡ true) → is_cell n (added d c) ≡ true
+    by_place : (c : List ℤ) (b : Bool) → has S c ≡ b → (has S c ≡ false → passes c ≡ true) → passes c ≡ true
     by_place c true e f = member_passes passes S c fits e
     by_place c false e f = f e
+
+shift_range : (n : ℕ) (d : List ℤ) (S T : List (List ℤ)) → IsCellSet n S → IsCellSet n T → shift_fits n d S ≡ true → shift_fits n d T ≡ shift_fits n d (xor_cells n S T)
+unfolding shift_fits
+shift_range n d S T s t fits = all_range n (λ c. is_cell n (added d c)) S T s t fits
+
+lift_range : (n i : ℕ) (lo hi : ℤ) (S T : List (List ℤ)) → IsCellSet n S → IsCellSet n T → lift_fits (n + 1) i lo hi S ≡ true
+    → lift_fits (n + 1) i lo hi T ≡ lift_fits (n + 1) i lo hi (xor_cells n S T)
+unfolding lift_fits
+lift_range n i lo hi S T s t fits = all_range n (λ c. list_all (λ k. is_cell (n + 1) (with_at i k c)) (ints lo (nat_abs (hi -ℤ lo)))) S T s t fits
 
 pub range_is : (op : Op1) (a da : Vertices) → da.dim ≡ a.dim → in_range op a.dim (cells_of a) ≡ true → in_range op da.dim (cells_of da) ≡ in_range op a.dim (changed_cells a da)
 range_is (Shift by) a da same_dim fits =
@@ -127,4 +133,7 @@ range_is (Swap i j) a da same_dim fits = refl
 range_is (Clip nums) a da same_dim fits = refl
 range_is (Slice axis at) a da same_dim fits = refl
 range_is (Proj axis) a da same_dim fits = refl
-range_is (Lift axis lo hi) a da same_dim fits = refl
+range_is (Lift axis lo hi) a da same_dim fits =
+    ap (λ (m : ℕ). lift_fits (m + 1) (axis - 1) lo hi (cells m da.rows)) same_dim
+    ∙ lift_range a.dim (axis - 1) lo hi (cells_of a) (cells a.dim da.rows) (cell_set-cells a.dim a.rows) (cell_set-cells a.dim da.rows) fits
+    ∙ ap (λ (m : ℕ). lift_fits (a.dim + 1) (axis - 1) lo hi (xor_cells a.dim (cells_of a) (cells m da.rows))) (sym same_dim)

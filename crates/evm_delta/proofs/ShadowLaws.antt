@@ -1,20 +1,24 @@
 -- A projection changes only where some cell of the change stands over it.
 use Rattle.std.proofs.Common.{◌≡◌, ℕ, suc, ◌<◌, Bool, true, false, ◌&&◌, List, [], ◌∷◌, get_or, ℤ, pos, neg_ℤ, int_le, int_lt, int_eq, refl, sym, ap, ap₂, ◌∙◌, arith, ⊎_elim}
-use Rattle.std.specs.List.{list_any}
+use Rattle.std.specs.List.{list_any, list_all}
 use Rattle.std.proofs.lemmas.Bool.{true≢false, false≢true, or_cases, or_left, or_right}
-use Rattle.evm_cells.specs.Places.{has, without, with_at}
+use Rattle.evm_cells.specs.Places.{has, same, before, without, with_at}
 use Rattle.evm_cells.specs.Limits.{cell_coords, is_cell, is_cell_coord, limit, IsCellSet}
 use Rattle.evm_cells.specs.Booleans.{xor, xor_cells, and_cells}
 use Rattle.evm_cells.specs.Sections.{slice}
-use Rattle.evm_cells.specs.Shapes.{proj, lift}
-use Rattle.evm_cells.proofs.Xor.{and_both, xor-false, xor_self}
+use Rattle.evm_cells.specs.Shapes.{proj, lift, lift_fits}
+use Rattle.evm_cells.proofs.Xor.{and_both, and_second, xor-false, xor_self}
 use Rattle.evm_cells.proofs.Order.{refuted}
-use Rattle.evm_cells.proofs.Coords.{eq_is, any-cell_coords}
+use Rattle.std.proofs.lemmas.Int.{ints as int_facts}
+use Rattle.evm_cells.proofs.Lists.{all_members}
+use Rattle.evm_cells.proofs.Places.{strict_places, has-any}
+use Rattle.evm_cells.proofs.LiftRanges.{fits_within}
+use Rattle.evm_cells.proofs.Coords.{eq_is, any-cell_coords, point_yes, lt_yes, limit-some}
 use Rattle.evm_cells.proofs.Universe.{same_sets, cell_parts, has-cells, member_passes}
 use Rattle.evm_cells.proofs.Combine.{cell_set-xor, has-xor_cells}
 use Rattle.evm_cells.proofs.Booleans.{by_cells, cell_sets}
-use Rattle.evm_cells.proofs.Slices.{has-slice_of, cell_of_with_at}
-use Rattle.evm_cells.proofs.Lifts.{proj_of_sections, cell_set-proj, cell_set-lift, without-with_at, coord-with_at}
+use Rattle.evm_cells.proofs.Slices.{has-slice_of, cell_of_with_at, all-with_at}
+use Rattle.evm_cells.proofs.Lifts.{some_passing, proj_of_sections, cell_set-proj, cell_set-lift, without-with_at, coord-with_at}
 
 -- a number of a list that passes
 any_found : (f : ℤ → Bool) (xs : List ℤ) (k : ℤ) → f k ≡ true → list_any (int_eq k) xs ≡ true → list_any f xs ≡ true
@@ -129,3 +133,16 @@ shadow_change n i lo hi A D l a b s d =
     at c false e =
         ap (xor (has (proj n i R) c)) (untouched R c r e) ∙ xor_self (has (proj n i R) c)
         ∙ sym (ap (xor (has (proj n i A) c)) (untouched A c s e) ∙ xor_self (has (proj n i A) c))
+
+-- the columns over a projection are cells: each has the coordinates of a cell that stands over it
+pub columns_fit : (n i : ℕ) (D : List (List ℤ)) → i < suc n → IsCellSet (suc n) D → lift_fits (suc n) i (neg_ℤ (pos (limit (suc n)))) (pos (limit (suc n))) (proj n i D) ≡ true
+columns_fit n i D l d =
+    let s = limit-some (suc n) in
+    fits_within n i (neg_ℤ (pos (limit (suc n)))) (pos (limit (suc n))) (proj n i D) (cell_set-proj n i D)
+    (point_yes (suc n) (neg_ℤ (pos (limit (suc n)))) (omega (arith, int_facts)) (omega (arith, int_facts))) (point_yes (suc n) (pos (limit (suc n))) (omega (arith, int_facts)) (omega (arith, int_facts)))
+    (lt_yes (neg_ℤ (pos (limit (suc n)))) (pos (limit (suc n))) (omega (arith, int_facts)))
+    ∙ all_members same before strict_places (list_all (is_cell_coord (suc n))) (proj n i D)
+    (λ c m. let over = and_second (is_cell n c) (list_any (λ k. has D (with_at i k c)) (cell_coords (suc n))) (sym (has-proj n i D c l d) ∙ has-any (proj n i D) c ∙ m) in
+    let (k, h, q) = some_passing (λ k. has D (with_at i k c)) (cell_coords (suc n)) over in
+    let (e, a) = cell_parts (suc n) (with_at i k c) (member_passes (is_cell (suc n)) D (with_at i k c) d.cells h) in
+    and_second (is_cell_coord (suc n) k) (list_all (is_cell_coord (suc n)) c) (sym (all-with_at (is_cell_coord (suc n)) i k c) ∙ a))

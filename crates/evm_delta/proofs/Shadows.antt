@@ -1,15 +1,15 @@
 -- The change of a projection, on vertices.
-use Rattle.std.proofs.Common.{◌≡◌, ℕ, zero, suc, ◌+◌, ◌-◌, ◌<◌, ◌≤◌, List, ℤ, pos, neg_ℤ, sym, ap, ap₂, ◌∙◌, arith}
+use Rattle.std.proofs.Common.{◌≡◌, ℕ, zero, suc, ◌+◌, ◌-◌, ◌<◌, ◌≤◌, true, List, ℤ, pos, neg_ℤ, sym, ap, ap₂, ◌∙◌, arith}
 use Rattle.evm_cells.specs.Limits.{limit, IsCellSet}
 use Rattle.evm_cells.specs.Booleans.{xor_cells, and_cells}
-use Rattle.evm_cells.specs.Shapes.{proj, lift}
+use Rattle.evm_cells.specs.Shapes.{proj, lift, lift_fits}
 use Rattle.evm_cells.specs.Vertices.{evm, cells}
 use Rattle.evm_cells.proofs.Universe.{cell_set-cells}
 use Rattle.evm_rows.specs.Rows.{Vertices, cells_of, xor_rows}
 use Rattle.evm_delta.specs.declared.shapes.Op1.TheVariants.{Proj}
-use Rattle.evm_delta.specs.Shapes.{shape_change}
+use Rattle.evm_delta.specs.Shapes.{shape_change, column_fits}
 use Rattle.evm_delta.proofs.Deltas.{xor_rows_is}
-use Rattle.evm_delta.proofs.ShadowLaws.{shadow_change}
+use Rattle.evm_delta.proofs.ShadowLaws.{shadow_change, columns_fit}
 
 -- vertices of dimension n whose cells are X
 pub record Shows (n : ℕ) (X : List (List ℤ)) (v : Vertices) : Type 0 where
@@ -79,3 +79,12 @@ shadow_is i axis lo hi a da o w s same deep low high at begins ends ho hw d r =
     ∙ ap (λ (k : ℕ). xor_cells (n - 1) (proj (n - 1) k A) (proj (n - 1) k (xor_cells n A D))) at
     ∙ ap (λ (m : ℕ). xor_cells (n - 1) (proj (n - 1) (axis - 1) A) (proj (n - 1) (axis - 1) (xor_cells n A (cells m da.rows)))) (sym same)) in
     λ j. record { dim = dim j; rows = rows j }
+
+-- the columns over the vertices of a projection are cells
+pub fits_shown : (n axis : ℕ) (D : List (List ℤ)) (v : Vertices) → 0 < axis → axis ≤ n → Shows (n - 1) (proj (n - 1) (axis - 1) D) v → IsCellSet n D → column_fits axis v ≡ true
+fits_shown zero axis D v some within h d = absurd (omega arith)
+fits_shown (suc m) axis D v some within h d =
+    let e : suc m - 1 ≡ m = omega arith in
+    let V : v.dim + 1 ≡ suc m = omega (arith, h.dim) in
+    let X : cells_of v ≡ proj m (axis - 1) D = ap (λ (k : ℕ). cells k v.rows) h.dim ∙ h.cells ∙ ap (λ (k : ℕ). proj k (axis - 1) D) e in
+    ap₂ (λ (k : ℕ) Y. lift_fits k (axis - 1) (neg_ℤ (pos (limit k))) (pos (limit k)) Y) V X ∙ columns_fit m (axis - 1) D (omega arith) d

@@ -5,7 +5,7 @@ use Rattle.evm_cells.specs.Limits.{limit, is_cell_coord}
 use Rattle.evm_cells.specs.Booleans.{xor_cells}
 use Rattle.evm_cells.specs.Boxes.{is_box}
 use Rattle.evm_cells.specs.Sections.{slice}
-use Rattle.evm_cells.specs.Shapes.{is_shift, shift, shift_fits, mirror, swap_axes, clip, proj, lift}
+use Rattle.evm_cells.specs.Shapes.{is_shift, shift, shift_fits, mirror, swap_axes, clip, proj, lift, lift_fits}
 use Rattle.evm_cells.specs.Vertices.{evm}
 use Rattle.evm_rows.specs.Rows.{Vertices, cells_of}
 use Rattle.evm_shapes.specs.declared.shifts.ShapeError.{ShapeError}
@@ -45,7 +45,7 @@ op1_cells (Slice axis at) n S = slice (n - 1) (axis - 1) at S
 op1_cells (Proj axis) n S = proj (n - 1) (axis - 1) S
 op1_cells (Lift axis lo hi) n S = lift (n + 1) (axis - 1) lo hi S
 
--- no cell leaves the limits: only a shift can move one to a place that is no cell
+-- no cell leaves the limits: only a shift and a lift can make one of a place that is no cell
 abbrev pub in_range : Op1 → ℕ → List (List ℤ) → Bool
 in_range (Shift by) n S = shift_fits n by S
 in_range (Mirror axis) n S = true
@@ -53,7 +53,7 @@ in_range (Swap i j) n S = true
 in_range (Clip nums) n S = true
 in_range (Slice axis at) n S = true
 in_range (Proj axis) n S = true
-in_range (Lift axis lo hi) n S = true
+in_range (Lift axis lo hi) n S = lift_fits (n + 1) (axis - 1) lo hi S
 
 -- the vertices of the shape of a solid
 unfoldable pub shape_vertices : Op1 → Vertices → Vertices
@@ -76,7 +76,15 @@ unfoldable pub shape_change : Op1 → Vertices → Vertices → Vertices
 shape_change op a da =
     record { dim = op1_dim op a.dim; rows = evm (op1_dim op a.dim) (xor_cells (op1_dim op a.dim) (shape_before op a) (shape_after op a da)) }
 
--- where a shift gives no solid
+-- all cells over those of a shadow, along an axis that is put in
+abbrev pub column_cells : ℕ → Vertices → List (List ℤ)
+column_cells axis a = lift (a.dim + 1) (axis - 1) (neg_ℤ (pos (limit (a.dim + 1)))) (pos (limit (a.dim + 1))) (cells_of a)
+
+-- each of these places is a cell
+abbrev pub column_fits : ℕ → Vertices → Bool
+column_fits axis a = lift_fits (a.dim + 1) (axis - 1) (neg_ℤ (pos (limit (a.dim + 1)))) (pos (limit (a.dim + 1))) (cells_of a)
+
+-- where a shape gives no solid
 abbrev pub of_shape_error : ShapeError → DeltaError
 of_shape_error shapes.Range = errors.Range
 of_shape_error shapes.NoMemory = errors.NoMemory

@@ -3,13 +3,30 @@ ghost use Rattle.std.specs.Prelude.{◌≡◌, ◌-◌, ◌+◌, ◌<◌, ◌≤
 ghost use Rattle.evm_cells.specs.Booleans.{xor_cells};
 ghost use Rattle.evm_rows.specs.Rows.{cells_of};
 ghost use Rattle.evm_rows.specs.View.{vertices_of};
-ghost use Rattle.evm_delta.specs.Shapes.{Fits, op1_dim, in_range, changed_cells, shape_before, shape_after, shape_change};
+ghost use Rattle.evm_delta.specs.Shapes.{Fits, op1_dim, in_range, changed_cells, shape_before, shape_after, shape_change, column_cells, column_fits};
 
 use crate::shapes::{DeltaError, Op1, shape};
 use evm_boolean::and;
 use evm_rows::{NoMemory, Rows, Solid, limit, xor};
-use evm_shapes::{lift, project};
+use evm_shapes::{ShapeError, lift, project};
 use std::alloc::Global;
+
+// All cells over those of a shadow, from end to end of the limits, which hold them.
+fn columns(alloc: Global, shadow: Rows<'_>, axis: usize) -> Result<Solid, NoMemory>
+    requires room { (vertices_of shadow).dim ≤ 5 }
+    requires low { 0 < axis }
+    requires high { axis ≤ (vertices_of shadow).dim + 1 }
+    requires fits { column_fits axis (vertices_of shadow) ≡ true }
+    ensures dim { IfOk result (λ s. s.dim ≡ (vertices_of shadow.entry).dim + 1) }
+    ensures cells { IfOk result (λ s. cells_of s ≡ column_cells axis (vertices_of shadow.entry)) }
+{
+    let limit = limit(shadow.dim() + 1);
+    match lift(alloc, shadow, axis, -limit, limit) {
+        Ok(solid) => Ok(solid),
+        Err(ShapeError::NoMemory) => Err(NoMemory),
+        Err(ShapeError::Range) => unreachable!(),
+    }
+}
 
 // The change of a projection. A cell of it can change only where some cell of `da` stands over it, so only those columns
 // of `a` are looked at.
@@ -25,9 +42,8 @@ fn projection_change(
     requires high { axis ≤ (vertices_of a).dim }
     ensures { IfOk result (λ s. s ≡ shape_change (Op1.Proj axis) (vertices_of a.entry) (vertices_of da.entry)) }
 {
-    let limit = limit(a.dim());
     let touched = project(alloc, da, axis)?;
-    let columns = lift(alloc, touched.rows(), axis, -limit, limit)?;
+    let columns = columns(alloc, touched.rows(), axis)?;
     let before = and(alloc, a, columns.rows())?;
     let after = xor(alloc, before.rows(), da)?;
     let old_shadow = project(alloc, before.rows(), axis)?;
@@ -51,7 +67,7 @@ fn dim_of(op: &Op1, dim: usize) -> usize
 /// The change of a shape where its operand `a` changes by `da`, so that it becomes `a xor da`: the exclusive or of the
 /// shape before and after.
 ///
-/// The shape before is in range. Answers `Range` exactly where a shift moves some cell of `a xor da` past the limits. All
+/// The shape before is in range. Answers `Range` exactly where a shift or a lift takes some cell of `a xor da` past the limits. All
 /// shapes but the projection carry the change over as they do a solid; for a projection the columns that have a cell of
 /// the change are projected before and after. Where nothing changes, nothing is done. Takes the memory of the calls of
 /// that shape, for a projection three times and for its columns.

@@ -37,7 +37,7 @@ pub enum Op1 {
 /// Why there is no shape, or no change of it.
 #[derive(Clone, Copy, Debug, PartialEq, Eq)]
 pub enum DeltaError {
-    /// A shift moves some cell past the limits.
+    /// A shift or a lift takes some cell past the limits.
     Range,
     /// There was no memory.
     NoMemory,
@@ -63,7 +63,6 @@ impl From<ShapeError> for DeltaError {
 }
 
 // The number, which is the coordinate of a point.
-#[tactic(auto, unfolding(evm_cells::specs::Limits::is_point_coord, evm_cells::specs::Limits::limit))]
 fn coordinate(number: i64, _dim: usize) -> i32
     requires { is_point_coord _dim number ≡ true }
     ensures { result ≡ number }
@@ -99,7 +98,7 @@ fn clipped(alloc: Global, a: Rows<'_>, numbers: &[i64]) -> Result<Solid, NoMemor
 
 /// The shape of a solid, made anew.
 ///
-/// Answers `Range` exactly where a shift moves some cell past the limits. Takes the memory of the call of that shape.
+/// Answers `Range` exactly where a shift or a lift takes some cell past the limits. Takes the memory of the call of that shape.
 pub fn shape(alloc: Global, op: &Op1, a: Rows<'_>) -> Result<Solid, DeltaError>
     requires { Fits op.now (vertices_of a).dim }
     ensures vertices { IfOk result (λ s. s ≡ shape_vertices op.now (vertices_of a.entry)) }

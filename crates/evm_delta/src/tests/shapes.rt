@@ -41,7 +41,7 @@ fn changes(alloc: Global, op: &Op1, dim: usize, before: &[i32], change_rows: &[i
 #[tactic(auto, unfolding(evm_cells::specs::Limits::limit, evm_cells::specs::Shapes::is_shift))]
 fn moved(alloc: Global) -> (bool, bool, bool, bool) {
     let near = Op1::Shift(Nums::within(&[1, 2]));
-    let far = Op1::Shift(Nums::within(&[524_286, 0]));
+    let far = Op1::Shift(Nums::within(&[1_073_741_822, 0]));
     (
         changes(
             alloc,
@@ -65,6 +65,23 @@ fn moved(alloc: Global) -> (bool, bool, bool, bool) {
             &[0, 0, 0, 2, 1, 0, 1, 2],
             &[0, 1, 0, 3, 1, 1, 1, 3],
         ),
+    )
+}
+
+// A prism in four dimensions over a solid that grows past the limit of that dimension.
+#[tactic(auto, unfolding(evm_cells::specs::Limits::limit))]
+fn grown(alloc: Global) -> (bool, bool) {
+    let (Ok(at), Ok(past)) = (
+        Solid::of_box(alloc, &[0, 0, 0], &[268_435_456, 1, 1]),
+        Solid::of_box(alloc, &[0, 0, 0], &[268_435_457, 1, 1]),
+    ) else {
+        return (false, false);
+    };
+    let none = Solid::empty(alloc, 3);
+    let prism = Op1::Lift(4, 0, 1);
+    (
+        delta1(alloc, &prism, none.rows(), at.rows()).is_ok(),
+        delta1(alloc, &prism, none.rows(), past.rows()).is_err_and(|e| e == DeltaError::Range),
     )
 }
 
@@ -101,4 +118,5 @@ fn cut(alloc: Global) -> (bool, bool, bool, bool, bool) {
 fn changes_shapes(rt: HostRuntime) {
     assert_eq!(rt; moved(rt.alloc()), (true, true, true, true));
     assert_eq!(rt; cut(rt.alloc()), (true, true, true, true, true));
+    assert_eq!(rt; grown(rt.alloc()), (true, true));
 }
