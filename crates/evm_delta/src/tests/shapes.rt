@@ -1,3 +1,4 @@
+ghost use Rattle.std.specs.Prelude.{◌≡◌};
 ghost use Rattle.evm_delta.specs.Shapes.{Fits};
 
 use crate::{DeltaError, Op1, delta1, shape};
@@ -68,7 +69,17 @@ fn moved(alloc: Global) -> (bool, bool, bool, bool) {
     )
 }
 
-// A prism in four dimensions over a solid that grows past the limit of that dimension.
+// The change of a prism where its base comes from nothing.
+fn risen(alloc: Global, prism: &Op1, base: &Solid) -> Result<Solid, DeltaError>
+    requires dim { base.now.dim ≡ 3 }
+    requires fits { Fits prism.now 3 }
+{
+    let none = Solid::empty(alloc, 3);
+    let _before = shape(alloc, prism, none.rows())?;
+    delta1(alloc, prism, none.rows(), base.rows())
+}
+
+// A prism in four dimensions, over a base up to the limit of these and past it.
 #[tactic(auto, unfolding(evm_cells::specs::Limits::limit))]
 fn grown(alloc: Global) -> (bool, bool) {
     let (Ok(at), Ok(past)) = (
@@ -77,11 +88,10 @@ fn grown(alloc: Global) -> (bool, bool) {
     ) else {
         return (false, false);
     };
-    let none = Solid::empty(alloc, 3);
     let prism = Op1::Lift(4, 0, 1);
     (
-        delta1(alloc, &prism, none.rows(), at.rows()).is_ok(),
-        delta1(alloc, &prism, none.rows(), past.rows()).is_err_and(|e| e == DeltaError::Range),
+        risen(alloc, &prism, &at).is_ok(),
+        risen(alloc, &prism, &past).is_err_and(|e| e == DeltaError::Range),
     )
 }
 
