@@ -9,3 +9,8 @@ pub mod ImageSets
 pub mod BoxLines
 pub mod BoxLaws
 pub mod PgmRefusals
+pub mod HeaderLaws
+pub mod Joins
+pub mod StackLaws
+pub mod FrameLaws
+pub mod VoxelFiles

@@ -11,4 +11,4 @@ mod voxels;
 
 pub use boxes::{BoxFileError, box_files_state_unions};
 pub use file::{FileError, files_determine_solids};
-pub use voxels::{Sampling, VoxelError};
+pub use voxels::{Sampling, VoxelError, stacks_state_images, streams_state_frames};

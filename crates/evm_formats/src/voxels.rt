@@ -27,6 +27,8 @@
 
 ghost use Rattle.std.specs.Prelude.{◌≡◌};
 ghost use Rattle.evm_formats.specs.declared.voxels.VoxelError.TheVariants.{NoMemory};
+ghost use Rattle.evm_formats.specs.VoxelLaws.{HeaderStates, SamplesState, FewerAreShort, StacksJoin, StackCells, FramesJoin};
+ghost use Rattle.evm_formats.specs.VoxelLaws.{NeverKind, VoxelCellSets, ImageOfFour, StreamOfTwo};
 
 use std::alloc::AllocError;
 use thiserror::Error;
@@ -77,3 +79,33 @@ pub enum Sampling {
     /// Not at all: there are no other planes.
     Mono,
 }
+
+/// A stack states its images, whatever the bytes between them.
+///
+/// - `header`: a header states its three numbers, however it is written: whatever white space, comments and zeros.
+/// - `samples`: a header and all its samples state the image of these, whatever follows.
+/// - `short`: a header with fewer bytes than its samples is refused for that.
+/// - `joined`: the bytes of two stacks of one size state the images of the first and then those of the second.
+/// - `cells`: a stack states the cells of its images.
+/// - `never_kind`: no stack is refused for a sampling.
+/// - `worked`: an image of two columns and two rows.
+pub fn stacks_state_images()
+    ensures header { HeaderStates }
+    ensures samples { SamplesState }
+    ensures short { FewerAreShort }
+    ensures joined { StacksJoin }
+    ensures cells { StackCells }
+    ensures never_kind { NeverKind }
+    ensures worked { ImageOfFour }
+{}
+
+/// A stream states its frames.
+///
+/// - `joined`: frames and then other frames, behind one first line, are the first and then the others.
+/// - `cell_sets`: the cells that a stream or a stack states are a cell set.
+/// - `worked`: a stream of two frames.
+pub fn streams_state_frames()
+    ensures joined { FramesJoin }
+    ensures cell_sets { VoxelCellSets }
+    ensures worked { StreamOfTwo }
+{}
