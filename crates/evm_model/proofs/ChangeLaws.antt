@@ -6,14 +6,14 @@ use Rattle.evm_cells.proofs.Order.{refuted}
 use Rattle.evm_script.specs.declared.formula.Formula.{Formula}
 use Rattle.evm_model.specs.Figures.{Figure, nothing, same_figure}
 use Rattle.evm_model.specs.Orders.{is_among}
-use Rattle.evm_model.specs.Scene.{Scene, Entry, Given, Made, entry_of, stands, operands_of, formula_value, value, entry_value, is_read, with_entry, with_figure, with_new, formula_dim, IsWell, IsOrderOf, entry_operands}
+use Rattle.evm_model.specs.Scene.{Scene, Entry, Given, Made, entry_of, stands, operands_of, formula_value, value, entry_value, is_read, with_entry, with_figure, with_new, formula_dim, IsWell, IsOrderOf, entry_operands, given_entry, made_entry}
 use Rattle.evm_model.specs.Edits.{Edit, Input, Def, Drop, name_of, refusal, after, changed, changed_names}
 use Rattle.evm_model.proofs.Names.{by_name, by_test, not_both, or_left, neither, name_itself, among_none}
 use Rattle.evm_model.proofs.Lookups.{with_other, with_own, with_none, with_stands, without_own, push_own, length-with}
 use Rattle.evm_model.proofs.Levels.{value_unique, formula_same}
 use Rattle.evm_model.proofs.Counts.{changed_count}
 use Rattle.evm_model.proofs.FigureLaws.{same_itself}
-use Rattle.evm_model.proofs.WellScenes.{well_value, well_order, value_dim, value_cells}
+use Rattle.evm_model.proofs.WellScenes.{well_value, well_order}
 use Rattle.evm_model.proofs.Stays.{IsAt, before_parts, at_edit, at_figure, value_stays, unread_unreached}
 use Rattle.evm_model.proofs.WellEdits.{unread}
 use Rattle.evm_model.proofs.Orders.{ordered_less}
@@ -32,11 +32,11 @@ input_empty scene name dim well r =
     ∙ ap (λ (t : Option Entry). entry_value t (value (after scene (Input name dim)))) (push_own scene.entries (record { name = name; dim = nat_abs dim; what = Given [] }) (new_input scene name dim r).fresh)
 
 -- a name has what its formula makes of the values of the operands, which stay
-formula_entry : (scene : Scene) (name : List ℕ) (formula : Formula) → entry_of (after scene (Def name formula)).entries name ≡ Some (record { name = name; dim = formula_dim scene formula; what = Made formula })
+formula_entry : (scene : Scene) (name : List ℕ) (formula : Formula) → entry_of (after scene (Def name formula)).entries name ≡ Some (made_entry scene name formula)
 formula_entry scene name formula = by (stands scene name) refl
   where
     new : Entry
-    new = record { name = name; dim = formula_dim scene formula; what = Made formula }
+    new = made_entry scene name formula
 
     by : (b : Bool) → stands scene name ≡ b
         → entry_of (cond {A = Scene} b (record { entries = with_entry scene.entries name new }) (with_new scene name (formula_dim scene formula) (Made formula))).entries name ≡ Some new
@@ -134,7 +134,7 @@ unread_changes scene name new well s free = by (same_figure (value scene name) n
 
     own : (stands u name && not (same_figure (value scene name) (value u name))) ≡ not (same_figure (value scene name) new)
     own =
-        ap (λ (b : Bool). b && not (same_figure (value scene name) (value u name))) (with_stands scene.entries name name (record { name = name; dim = new.dim; what = Given new.cells }) refl ∙ s)
+        ap (λ (b : Bool). b && not (same_figure (value scene name) (value u name))) (with_stands scene.entries name name (given_entry name new) refl ∙ s)
         ∙ ap (λ (a : Figure). not (same_figure (value scene name) a)) (value_own scene name new s)
 
     other : (x : List ℕ) → bytes_eq x name ≡ false → (stands u x && not (same_figure (value scene x) (value u x))) ≡ false

@@ -14,8 +14,9 @@ use Rattle.evm_cells.proofs.Order.{refuted}
 use Rattle.evm_cells.proofs.Xor.{and_both}
 use Rattle.evm_script.specs.declared.formula.Formula.{Formula}
 use Rattle.evm_model.specs.Figures.{Figure, nothing, box_of, box_at, xor_of, or_of, sub_of, box_fits, same_figure}
-use Rattle.evm_model.specs.Scene.{Scene, Entry, Given, Made, has_name, entry_of, stands, dim_of, value, value_within, entry_value, reaches, with_entry, with_figure, with_new, formula_dim, what_is_sound, all_stay, IsWell}
+use Rattle.evm_model.specs.Scene.{Scene, Entry, Given, Made, has_name, entry_of, stands, dim_of, value, value_within, entry_value, reaches, with_entry, with_figure, with_new, formula_dim, what_is_sound, all_stay, IsWell, given_entry, made_entry}
 use Rattle.evm_model.specs.Edits.{Edit, Input, Toggle, Add, Cut, Replace, Def, Drop, EditFits, name_of, refusal, with_box, after, changed, changed_names}
+use Rattle.evm_model.specs.Laws.{is_or_reaches}
 use Rattle.evm_model.proofs.Names.{by_test, not_both, same_name, or_left, or_right, or_none, among_none}
 use Rattle.evm_model.proofs.Lookups.{with_own, with_stands}
 use Rattle.evm_model.proofs.Counts.{count_cons}
@@ -64,7 +65,7 @@ well_def scene name formula well r = by (stands scene name) refl d.stay
     d = definition scene name formula r
 
     changed_scene : Scene
-    changed_scene = record { entries = with_entry scene.entries name (record { name = name; dim = formula_dim scene formula; what = Made formula }) }
+    changed_scene = record { entries = with_entry scene.entries name (made_entry scene name formula) }
 
     new_scene : Scene
     new_scene = with_new scene name (formula_dim scene formula) (Made formula)
@@ -112,8 +113,8 @@ others_stay scene edit other well d r = value_stays scene well (name_of edit) (a
 pub value_own : (scene : Scene) (name : List ℕ) (new : Figure) → stands scene name ≡ true → value (with_figure scene name new) name ≡ new
 value_own scene name new s = by (length (with_figure scene name new).entries)
   where
-    here : entry_of (with_figure scene name new).entries name ≡ Some (record { name = name; dim = new.dim; what = Given new.cells })
-    here = with_own scene.entries name (record { name = name; dim = new.dim; what = Given new.cells }) refl s
+    here : entry_of (with_figure scene name new).entries name ≡ Some (given_entry name new)
+    here = with_own scene.entries name (given_entry name new) refl s
 
     by : (n : ℕ) → value_within n (with_figure scene name new).entries name ≡ new
     by zero = ap (λ (e : Option Entry). entry_value e (λ o. nothing 0)) here
@@ -154,7 +155,7 @@ count_some p (x ∷ xs) h = by (p x) refl (λ k. count_some p xs k)
 
 -- an edit changes no more than its name and those that reach it
 pub changed_reach : (scene : Scene) (edit : Edit) → IsWell scene
-    → changed scene edit ≤ count_by (λ (e : Entry). bytes_eq e.name (name_of edit) || reaches scene e.name (name_of edit)) scene.entries
+    → changed scene edit ≤ count_by (is_or_reaches scene (name_of edit)) scene.entries
 changed_reach scene edit well =
     count_fewer (λ (e : Entry). stands u e.name && not (same_figure (value scene e.name) (value u e.name))) (λ (e : Entry). bytes_eq e.name name || reaches scene e.name name)
     (λ e h. by_test (bytes_eq e.name name || reaches scene e.name name) (λ t. t) (λ t. not_both (stands u e.name && not (same_figure (value scene e.name) (value u e.name))) h (unchanged e.name t)))
@@ -192,7 +193,7 @@ changed_own scene name new s d =
     count_some (λ (e : Entry). stands u e.name && not (same_figure (value scene e.name) (value u e.name))) scene.entries
     (found_any (λ x. stands u x && not (same_figure (value scene x) (value u x))) scene.entries name s
     (and_both (stands u name) (not (same_figure (value scene name) (value u name)))
-    (with_stands scene.entries name name (record { name = name; dim = new.dim; what = Given new.cells }) refl ∙ s)
+    (with_stands scene.entries name name (given_entry name new) refl ∙ s)
     (ap (λ (a : Figure). not (same_figure (value scene name) a)) (value_own scene name new s) ∙ ap not d)))
   where
     u : Scene

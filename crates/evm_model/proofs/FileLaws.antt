@@ -1,5 +1,5 @@
 -- Files: the figures that bytes state, and the bytes that figures are saved in.
-use Rattle.std.proofs.Common.{◌≡◌, ℕ, ◌≤◌, Bool, true, false, cond, List, [], ◌∷◌, Option, Some, None, Result, Ok, Err, ℤ, pos, int_le, ◌⊎◌, inl, inr, ⊎_elim, refl, sym, ap, ◌∙◌, subst, bytes_eq, arith, nat_le, nat_abs, IfOk}
+use Rattle.std.proofs.Common.{◌≡◌, ℕ, ◌≤◌, Bool, true, false, cond, List, Option, Some, None, Result, Ok, Err, ℤ, pos, int_le, ◌⊎◌, inl, inr, refl, sym, ap, ◌∙◌, subst, bytes_eq, arith, nat_le, nat_abs, IfOk}
 use Rattle.std.specs.Prelude.{◌↔◌, ◌==◌}
 use Rattle.std.proofs.lemmas.Bool.{eqb-false}
 use Rattle.std.proofs.lemmas.Bool.Decides.{Decides-eqb, nat_tests}

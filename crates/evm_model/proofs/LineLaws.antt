@@ -1,12 +1,11 @@
 -- The lines of a script have no LF, and make the script.
-use Rattle.std.specs.Prelude.{ℕ, ◌≡◌, ◌⊎◌, not, ◌&&◌, ◌||◌, flat_map, ◌+◌, ◌<◌, ◌≤◌, Bool, false, nat_eq, List, [], ◌∷◌, ◌++◌, length, take, drop, refl}
-use Rattle.std.specs.List.{list_any, list_all, onto_first, join_with_byte, slice_split, All, position_or_len, before_first, after_first}
-use Rattle.std.proofs.Common.{true, sym, ◌∙◌, ap, subst, arith, cond, inl, inr, ⊎_elim}
-use Rattle.std.proofs.lemmas.List.Splits.{slice_split_at, slice_split_none, slice_split_first, length-slice_split, join_with_byte-slice_split}
+use Rattle.std.specs.Prelude.{ℕ, ◌≡◌, ◌⊎◌, not, ◌&&◌, ◌||◌, flat_map, Bool, false, List, [], ◌∷◌, ◌++◌, refl}
+use Rattle.std.specs.List.{list_any, list_all, onto_first, join_with_byte, slice_split}
+use Rattle.std.proofs.Common.{true, sym, ◌∙◌, ap, subst, cond, inl, inr, ⊎_elim}
+use Rattle.std.proofs.lemmas.List.Splits.{join_with_byte-slice_split}
 use Rattle.std.proofs.lemmas.List.{append_assoc}
 use Rattle.evm_cells.proofs.Xor.{and_first, and_second, and_both}
 use Rattle.evm_model.specs.Replies.{line_of}
-use Rattle.std.proofs.lemmas.List.Sums.{fails_before_first}
 use Rattle.evm_text.specs.Lines.{is_lf, lines, lines_of_parts}
 
 append_nil : (xs : List ℕ) → xs ++ [] ≡ xs

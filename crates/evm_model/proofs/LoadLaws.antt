@@ -1,9 +1,8 @@
 -- Loads: what refuses them, and what they take from their file.
 use Rattle.std.proofs.Common.{◌≡◌, Bool, true, false, not, cond, List, [], ◌∷◌, ◌++◌, Option, Some, None, Ok, refl, sym, ap, ◌∙◌}
-use Rattle.std.specs.Prelude.{ℕ, ◌==◌, is_none, ◌↔◌}
+use Rattle.std.specs.Prelude.{ℕ, is_none, ◌↔◌}
 use Rattle.std.specs.List.{list_all}
 use Rattle.std.proofs.lemmas.Bool.{false≢true}
-use Rattle.std.proofs.lemmas.Bool.Decides.{Decides-eqb}
 use Rattle.evm_cells.proofs.Xor.{and_first, and_second}
 use Rattle.evm_script.specs.Line.{command}
 use Rattle.evm_script.specs.declared.command.Command.TheVariants as commands
@@ -11,7 +10,7 @@ use Rattle.evm_script.specs.declared.files.LoadForm.{LoadForm}
 use Rattle.evm_model.specs.Figures.{Figure}
 use Rattle.evm_model.specs.Files.{Fetches, form_fits, form_in_range, figure_in, figure_fetched, or_nothing}
 use Rattle.evm_model.specs.Scene.{Scene, stands, dim_of, is_input, value, with_figure, all_stay, IsWell}
-use Rattle.evm_model.specs.Edits.{Replace, Code, Name, Kind, Dim, Range, Missing, Form, first_cause, figure_causes, value_causes, refusal, after, changed}
+use Rattle.evm_model.specs.Edits.{Replace, Code, Missing, Form, first_cause, value_causes, after, changed}
 use Rattle.evm_model.specs.Replies.{No, Changed, is_no}
 use Rattle.evm_model.specs.Steps.{Turn, unless_refused, load_causes, loaded, file_causes, load_turn, line_turn, step, command_fetches, of_line, fetches}
 use Rattle.evm_model.proofs.Names.{not_false, not_true}

@@ -1,11 +1,11 @@
 -- Where operands stand and no name reaches itself, the names have an order in which operands come first.
-use Rattle.std.proofs.Common.{◌≡◌, ℕ, zero, suc, ◌+◌, ◌≤◌, Bool, true, false, ◌||◌, List, [], ◌∷◌, ◌++◌, length, map, refl, sym, ap, ◌∙◌, subst, bytes_eq, arith}
+use Rattle.std.proofs.Common.{◌≡◌, ℕ, zero, suc, ◌+◌, ◌≤◌, true, false, ◌||◌, List, [], ◌∷◌, ◌++◌, length, map, refl, sym, ◌∙◌, subst, bytes_eq, arith}
 use Rattle.std.proofs.lemmas.Bool.{false≢true}
 use Rattle.std.proofs.lemmas.List.Sums.{count_by-le-length}
 use Rattle.evm_cells.proofs.Lists.{all_weaker, any-map}
 use Rattle.evm_cells.proofs.Order.{refuted, same_tests}
 use Rattle.evm_model.specs.Orders.{is_among, Ordered}
-use Rattle.evm_model.specs.Scene.{Scene, Entry, entry_of, stands, operands_of, reaches_within, reaches, names_differ, IsOrderOf}
+use Rattle.evm_model.specs.Scene.{Scene, Entry, stands, operands_of, reaches_within, reaches, names_differ, IsOrderOf}
 use Rattle.evm_model.proofs.Names.{by_test, by_or, by_among, same_name, name_itself, or_left, or_right, or-false, among_here, among_later, among_none, among_end, some_passes, any_less}
 use Rattle.evm_model.proofs.Lookups.{stands_any}
 use Rattle.evm_model.proofs.Counts.{AllDiffer, name_of_entry, entries_differ, all_stand, count_all, count_keys, ordered_differ}

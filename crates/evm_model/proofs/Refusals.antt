@@ -11,7 +11,7 @@ use Rattle.evm_model.specs.Formulas.{Shape, Slice, Proj, Lift, shape_dim, shape_
 use Rattle.evm_model.specs.Figures.{Figure, box_fits, low_of, high_of}
 use Rattle.evm_model.specs.Orders.{is_among}
 use Rattle.evm_model.specs.Scene.{Scene, stands, dim_of, is_input, is_read, reaches, operands, is_dim, is_axis, with_figure, with_formula, formula_dim, formula_fits, formula_in_range, all_stay, IsWell}
-use Rattle.evm_model.specs.Edits.{Input, Replace, Def, Drop, Code, Name, Taken, Kind, Used, Cycle, Dim, Range, first_cause, lacks_operand, closes_cycle, misses_dim, box_causes, figure_causes, edit_causes, value_causes, with_box, refusal}
+use Rattle.evm_model.specs.Edits.{Input, Replace, Def, Drop, Code, first_cause, box_causes, edit_causes, value_causes, with_box, refusal}
 use Rattle.evm_model.proofs.Names.{or_none, among_here, passes_none, not_true, not_false}
 use Rattle.evm_model.proofs.Stays.{is_before, before_both}
 use Rattle.evm_model.proofs.WellEdits.{standing_dim}

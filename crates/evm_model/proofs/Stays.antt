@@ -7,7 +7,7 @@ use Rattle.evm_cells.proofs.Xor.{and_first}
 use Rattle.evm_script.specs.declared.formula.Formula.{Formula}
 use Rattle.evm_model.specs.Figures.{Figure, nothing, box_at, xor_of, or_of, sub_of}
 use Rattle.evm_model.specs.Orders.{is_among, Ordered}
-use Rattle.evm_model.specs.Scene.{Scene, Entry, What, Given, Made, entry_of, stands, dim_of, entry_operands, operands_of, value, value_within, entry_value, what_stays, reaches, with_entry, without_entry, with_figure, with_new, with_formula, without_name, formula_dim, names_differ, all_stay, IsWell, IsOrderOf}
+use Rattle.evm_model.specs.Scene.{Scene, Entry, What, Given, Made, entry_of, stands, dim_of, entry_operands, operands_of, value, value_within, entry_value, what_stays, reaches, with_entry, without_entry, with_figure, with_new, with_formula, without_name, formula_dim, names_differ, all_stay, IsWell, IsOrderOf, given_entry, made_entry}
 use Rattle.evm_model.specs.Edits.{Edit, Input, Toggle, Add, Cut, Replace, Def, Drop, name_of, after}
 use Rattle.evm_model.proofs.Names.{by_test, not_both, not_true, same_name, name_itself, or_left, or_none, neither, among_none, among_filter, some_passes, none_passes, any_among, apart_back}
 use Rattle.evm_model.proofs.Lookups.{none_stands, with_other, length-with, without_other, without_none, length-without, push_other, length-push}
@@ -42,8 +42,8 @@ IsAt s name u =
 
 pub at_figure : (s : Scene) (name : List ℕ) (new : Figure) → IsAt s name (with_figure s name new)
 at_figure s name new = (
-  λ x d. with_other s.entries name x (record { name = name; dim = new.dim; what = Given new.cells }) refl d,
-  omega (arith, length-with s.entries name (record { name = name; dim = new.dim; what = Given new.cells })),
+  λ x d. with_other s.entries name x (given_entry name new) refl d,
+  omega (arith, length-with s.entries name (given_entry name new)),
 )
 
 pub at_new : (s : Scene) (name : List ℕ) (dim : ℕ) (what : What) → IsAt s name (with_new s name dim what)
@@ -55,10 +55,10 @@ at_new s name dim what = (
 pub at_formula : (s : Scene) (name : List ℕ) (formula : Formula) → IsAt s name (with_formula s name formula)
 at_formula s name formula = by (stands s name)
   where
-    by : (b : Bool) → IsAt s name (cond b (record { entries = with_entry s.entries name (record { name = name; dim = formula_dim s formula; what = Made formula }) }) (with_new s name (formula_dim s formula) (Made formula)))
+    by : (b : Bool) → IsAt s name (cond b (record { entries = with_entry s.entries name (made_entry s name formula) }) (with_new s name (formula_dim s formula) (Made formula)))
     by true = (
-      λ x d. with_other s.entries name x (record { name = name; dim = formula_dim s formula; what = Made formula }) refl d,
-      omega (arith, length-with s.entries name (record { name = name; dim = formula_dim s formula; what = Made formula })),
+      λ x d. with_other s.entries name x (made_entry s name formula) refl d,
+      omega (arith, length-with s.entries name (made_entry s name formula)),
     )
     by false = at_new s name (formula_dim s formula) (Made formula)
 

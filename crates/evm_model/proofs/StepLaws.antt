@@ -1,9 +1,8 @@
 -- What a line leaves in a scene, and which files it reads and places.
-use Rattle.std.proofs.Common.{◌≡◌, Bool, true, false, not, ◌&&◌, ◌||◌, List, [], ◌++◌, Option, Some, None, Result, Ok, Err, refl, sym, ap, ◌∙◌}
+use Rattle.std.proofs.Common.{◌≡◌, Bool, true, false, not, ◌&&◌, ◌||◌, List, ◌++◌, Option, Some, None, Result, Ok, Err, refl, sym, ap, ◌∙◌}
 use Rattle.std.specs.Prelude.{ℕ, is_none}
 use Rattle.std.specs.List.{list_all}
 use Rattle.std.proofs.lemmas.Bool.{false≢true}
-use Rattle.evm_cells.specs.Limits.{is_cell_coord, is_point_coord}
 use Rattle.evm_script.specs.Line.{command}
 use Rattle.evm_script.specs.declared.command.Command.{Command}
 use Rattle.evm_script.specs.declared.command.Command.TheVariants as commands
@@ -12,10 +11,10 @@ use Rattle.evm_script.specs.declared.command.LineError.TheVariants as faults
 use Rattle.evm_script.specs.declared.files.LoadForm.{LoadForm}
 use Rattle.evm_script.specs.declared.files.SaveForm.{SaveForm}
 use Rattle.evm_model.specs.Files.{Fetches, bytes_in}
-use Rattle.evm_model.specs.Scene.{Scene, start, value, dim_of, IsWell}
+use Rattle.evm_model.specs.Scene.{Scene, start, value, IsWell}
 use Rattle.evm_model.specs.Edits as codes
 use Rattle.evm_model.specs.Edits.{Edit, Input, Toggle, Add, Cut, Replace, Def, Drop, EditFits, Code, Missing, Shelf, Memory, first_cause, name_causes, place_causes, section_causes, axis_causes, edit_causes, refusal, after, changed}
-use Rattle.evm_model.specs.Replies.{Reply, Empty, No, Changed, Listed, is_no}
+use Rattle.evm_model.specs.Replies.{Reply, No, Changed, is_no}
 use Rattle.evm_model.specs.Laws.{is_edit, is_edit_way, is_save, is_save_way}
 use Rattle.evm_model.specs.Steps.{Way, Edits, Asks, Loads, Saves, way_of, way_turn, way_fetches, way_asks, edit_reply, save_causes, command_asks, asks, Turn, stays, unless_refused, edited, load_causes, loaded, file_causes, load_turn, saved, turn_of, line_turn, step, command_fetches, of_line, fetches}
 use Rattle.evm_model.proofs.EditLaws.{well_edit}

@@ -1,6 +1,6 @@
 -- Edits keep a scene well.
-use Rattle.std.proofs.Common.{◌≡◌, ℕ, zero, suc, Bool, true, false, not, cond, ◌&&◌, ◌||◌, List, [], ◌∷◌, ◌++◌, length, filter, Option, Some, None, pos, refl, sym, ap, ◌∙◌, subst, is_some, bytes_eq, length-append, arith}
-use Rattle.std.specs.List.{list_any, list_all}
+use Rattle.std.proofs.Common.{◌≡◌, ℕ, zero, suc, Bool, true, false, not, cond, ◌&&◌, ◌||◌, List, [], ◌∷◌, length, Option, Some, None, pos, refl, sym, ap, ◌∙◌, subst, is_some, bytes_eq}
+use Rattle.std.specs.List.{list_any}
 use Rattle.std.proofs.lemmas.Bool.{false≢true}
 use Rattle.std.proofs.lemmas.List.Folds.{list_all-append}
 use Rattle.evm_cells.specs.Limits.{IsCellSet}
@@ -8,12 +8,10 @@ use Rattle.evm_cells.proofs.Order.{refuted}
 use Rattle.evm_cells.proofs.Xor.{and-true}
 use Rattle.evm_script.specs.declared.formula.Formula.{Formula}
 use Rattle.evm_model.specs.Figures.{Figure}
-use Rattle.evm_model.specs.Orders.{is_among, AllSeen, Ordered}
-use Rattle.evm_model.specs.Scene.{What, Given, Made, Entry, Scene, has_name, entry_of, stands, dim_of, dim_of_entry, operands, what_operands, entry_operands, operands_of, reaches, is_read, with_entry, with_figure, with_new, without_name, formula_dim, is_dim, names_differ, what_is_sound, value, what_stays, all_stay, IsWell, reaches_within}
-use Rattle.evm_model.proofs.Names.{by_name, by_test, not_both, name_itself, different_names, or_left, or_right, or_none, or_second, neither, or-false, among_here, among_later, among_none, among-append, among_end, among_filter, not_true, by_or, any_less, or_map, same_name, none_passes}
-use Rattle.evm_model.proofs.Lookups.{with_other, with_own, with_none, length-with, with_stands, differ_with, without_other, without_own, length-without, differ_without, push_other, push_own, length-push, differ_push, same_entry, no_some}
-use Rattle.evm_model.proofs.Counts.{same_length, ordered_differ}
-use Rattle.evm_model.proofs.Orders.{ordered_join, ordered_less, ordered_push, ordered_filter}
+use Rattle.evm_model.specs.Orders.{is_among}
+use Rattle.evm_model.specs.Scene.{What, Made, Entry, Scene, has_name, entry_of, stands, dim_of, dim_of_entry, operands, what_operands, entry_operands, operands_of, reaches, is_read, with_entry, with_figure, with_new, without_name, formula_dim, is_dim, names_differ, what_is_sound, value, what_stays, all_stay, IsWell, reaches_within, given_entry, made_entry}
+use Rattle.evm_model.proofs.Names.{by_name, by_test, not_both, name_itself, different_names, or_left, or_none, or_second, neither, among_none, by_or, any_less, or_map, same_name, none_passes}
+use Rattle.evm_model.proofs.Lookups.{with_other, with_own, with_none, differ_with, without_other, without_own, differ_without, push_other, push_own, differ_push, same_entry, no_some}
 use Rattle.evm_model.proofs.Levels.{what_stays_same}
 use Rattle.evm_model.proofs.Stays.{is_before, before_parts, before_both, before_reads, at_new, at_drop, value_stays, other_stays, all_stay_at, unread_unreached}
 use Rattle.evm_model.proofs.WellScenes.{well_reaches, well_through, found_sound, found_dim, all_entries, what_sound_same, sound_cells}
@@ -143,7 +141,7 @@ well_figure s name new well dim cells stay =
     (λ out. subst IsWell (λ i. record { entries = sym (with_none s.entries name entry out) i }) well)
   where
     entry : Entry
-    entry = record { name = name; dim = new.dim; what = Given new.cells }
+    entry = given_entry name new
 
     u : Scene
     u = with_figure s name new
@@ -203,8 +201,8 @@ well_new s name dim what well out d sound stand stay =
 -- another formula under a name that stands, which none of its operands is or reaches
 pub well_formula : (s : Scene) (name : List ℕ) (f : Formula) → IsWell s → stands s name ≡ true → formula_dim s f ≡ dim_of s name → what_is_sound s (formula_dim s f) (Made f) ≡ true
     → ((o : List ℕ) → is_among o (operands f) ≡ true → stands s o ≡ true) → ((o : List ℕ) → is_among o (operands f) ≡ true → is_before s name o ≡ true)
-    → all_stay (record { entries = with_entry s.entries name (record { name = name; dim = formula_dim s f; what = Made f }) }) ≡ true
-    → IsWell (record { entries = with_entry s.entries name (record { name = name; dim = formula_dim s f; what = Made f }) })
+    → all_stay (record { entries = with_entry s.entries name (made_entry s name f) }) ≡ true
+    → IsWell (record { entries = with_entry s.entries name (made_entry s name f) })
 well_formula s name f well h dim sound stand free stay =
     well_after s u well name other (differ_with s.entries name entry refl well.names)
     (λ x m. (ap (λ (t : Option Entry). is_some t) here, ap (λ (t : Option Entry). dim_of_entry t) here ∙ dim))
@@ -215,7 +213,7 @@ well_formula s name f well h dim sound stand free stay =
     (λ o m. let k = subst (λ (t : Option Entry). is_among o (entry_operands t) ≡ true) here m in (free o k, stand o k)) stay
   where
     entry : Entry
-    entry = record { name = name; dim = formula_dim s f; what = Made f }
+    entry = made_entry s name f
 
     u : Scene
     u = record { entries = with_entry s.entries name entry }

@@ -6,10 +6,10 @@ use Rattle.std.specs.List.{list_any, list_all}
 use Rattle.std.proofs.lemmas.Bool.Decides.{Decides-eqb}
 use Rattle.std.proofs.lemmas.List.{length-take-le}
 use Rattle.evm_cells.specs.Places.{ascending}
-use Rattle.evm_cells.specs.Limits.{IsCellSet, is_cell, is_cell_coord}
+use Rattle.evm_cells.specs.Limits.{IsCellSet, is_cell}
 use Rattle.evm_cells.proofs.Booleans.{cell_sets}
 use Rattle.evm_cells.specs.Boxes.{box_cells}
-use Rattle.evm_cells.specs.Shapes.{added, clip, is_shift, shift, shift_fits}
+use Rattle.evm_cells.specs.Shapes.{added, clip, shift, shift_fits}
 use Rattle.evm_cells.proofs.Corners.{cell_set-box}
 use Rattle.evm_cells.proofs.Slices.{cell_set-slice}
 use Rattle.evm_cells.proofs.Moves.{cell_set-mirror, cell_set-swap, cell_set-shift}
@@ -25,9 +25,9 @@ use Rattle.evm_cells.proofs.Xor.{and_first, and_second, and_both}
 use Rattle.evm_script.specs.declared.formula.Formula.{Formula}
 use Rattle.evm_script.specs.declared.formula.Formula.TheVariants as formulas
 use Rattle.evm_model.specs.Formulas.{Boolean, Or, And, Sub, Xor, boolean_of, Shape, Shift, Mirror, Swap, Clip, Slice, Proj, Lift, shape_of, shape_dim, shape_fits, shape_in_range, Parts, Both, Block, Shaped, parts_of, parts_operands, parts_value, parts_dim, parts_fit, parts_are_sound}
-use Rattle.evm_model.specs.Figures.{Figure, nothing, box_of, box_at, box_fits, low_of, high_of, or_of, and_of, sub_of, xor_of, shift_of, shift_stays, mirror_of, swap_of, clip_of, slice_of, proj_of, lift_of, lift_stays}
+use Rattle.evm_model.specs.Figures.{Figure, nothing, box_of, box_at, low_of, high_of, or_of, and_of, sub_of, xor_of, shift_of, shift_stays, mirror_of, swap_of, clip_of, slice_of, proj_of, lift_of, lift_stays}
 use Rattle.evm_model.specs.Orders.{is_among}
-use Rattle.evm_model.specs.Scene.{What, Given, Made, Entry, Scene, has_name, entry_of, stands, dim_of, dim_of_entry, operands, what_operands, entry_operands, operands_of, formula_value, what_value, what_stays, entry_value, value, reaches, is_dim, is_axis, is_range, formula_dim, formula_fits, formula_in_range, names_differ, what_is_sound, IsWell, reaches_within, IsOrderOf}
+use Rattle.evm_model.specs.Scene.{What, Given, Made, Entry, Scene, has_name, entry_of, stands, dim_of, dim_of_entry, what_operands, entry_operands, operands_of, what_value, what_stays, entry_value, value, reaches, is_dim, is_axis, formula_dim, formula_fits, formula_in_range, names_differ, what_is_sound, IsWell, reaches_within, IsOrderOf}
 use Rattle.evm_model.proofs.Names.{by_test, not_both, same_name, name_itself, among_here, among_later, among_none, not_true, any_less, or_right, by_or}
 use Rattle.evm_model.proofs.Lookups.{stands_any, none_stands, found_passes}
 use Rattle.evm_model.proofs.OrderExists.{order_of}

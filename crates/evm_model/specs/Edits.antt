@@ -112,7 +112,8 @@ closes_cycle scene name formula = list_any (λ o. bytes_eq o name || reaches sce
 
 -- whether a formula has no dimension, or another than the name that stands
 abbrev pub misses_dim : Scene → List ℕ → Formula → Bool
-misses_dim scene name formula = not (formula_fits scene formula) || (stands scene name && not (formula_dim scene formula == dim_of scene name))
+misses_dim scene name formula = not (formula_fits scene formula)
+    || (stands scene name && not (formula_dim scene formula == dim_of scene name))
 
 -- what refuses a definition
 abbrev pub def_causes : Scene → List ℕ → Formula → List (Bool × Code)
@@ -148,7 +149,8 @@ edit_causes scene (Input name dim) = (stands scene name, Taken) ∷ (not (is_dim
 edit_causes scene (Toggle name nums) = box_causes scene name nums ++ value_causes (after scene (Toggle name nums))
 edit_causes scene (Add name nums) = box_causes scene name nums ++ value_causes (after scene (Add name nums))
 edit_causes scene (Cut name nums) = box_causes scene name nums ++ value_causes (after scene (Cut name nums))
-edit_causes scene (Replace name figure) = figure_causes scene name figure ++ value_causes (after scene (Replace name figure))
+edit_causes scene (Replace name figure) = figure_causes scene name figure
+    ++ value_causes (after scene (Replace name figure))
 edit_causes scene (Def name formula) = def_causes scene name formula ++ value_causes (after scene (Def name formula))
 edit_causes scene (Drop name) = (not (stands scene name), Name) ∷ (is_read scene name, Used) ∷ []
 
@@ -159,7 +161,8 @@ refusal scene edit = first_cause (edit_causes scene edit)
 -- how many names stand before and after with different values
 abbrev pub changed_names : Scene → Scene → ℕ
 changed_names old new =
-    count_by (λ (e : Entry). stands new e.name && not (same_figure (value old e.name) (value new e.name))) old.entries
+    count_by (λ (e : Entry). stands new e.name && not (same_figure (value old e.name) (value new e.name)))
+    old.entries
 
 -- how many names an edit changes
 abbrev pub changed : Scene → Edit → ℕ

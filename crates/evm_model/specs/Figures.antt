@@ -118,4 +118,5 @@ pub data Place : Type 0 where
 
 -- the place of a point in a figure
 unfoldable pub place_of : Figure → List ℤ → Place
-place_of a point = if is_inside a.dim a.cells point then Inside else if is_outside a.cells point then Outside else Boundary
+place_of a point =
+    if is_inside a.dim a.cells point then Inside else if is_outside a.cells point then Outside else Boundary

@@ -26,19 +26,23 @@ use Rattle.evm_model.specs.Runs.{World, Mark, Plain, Fetched, answer, fetched_fr
 
 -- two figures that are cell sets are the same exactly where they are equal
 abbrev pub SameIsEqual : Type 0
-SameIsEqual = (a b : Figure) → IsCellSet a.dim a.cells → IsCellSet b.dim b.cells → (same_figure a b ≡ true) ↔ (a ≡ b)
+SameIsEqual = (a b : Figure) → IsCellSet a.dim a.cells → IsCellSet b.dim b.cells
+    → (same_figure a b ≡ true) ↔ (a ≡ b)
 
 -- the text of a reply begins with `no` exactly where the reply refuses
 abbrev pub RefusalsBeginWithNo : Type 0
-RefusalsBeginWithNo = (reply : Reply) → starts_with nat_eq (reply_text reply) (codes "no") ≡ is_no reply
+RefusalsBeginWithNo = (reply : Reply)
+    → starts_with nat_eq (reply_text reply) (codes "no") ≡ is_no reply
 
 -- the text of a reply is empty or ends with LF
 abbrev pub RepliesAreLines : Type 0
-RepliesAreLines = (reply : Reply) → (reply_text reply ≡ []) ⊎ ((front : List ℕ) × (reply_text reply ≡ front ++ 10 ∷ []))
+RepliesAreLines = (reply : Reply)
+    → (reply_text reply ≡ []) ⊎ ((front : List ℕ) × (reply_text reply ≡ front ++ 10 ∷ []))
 
 -- a refused line leaves the scene, and places no file
 abbrev pub RefusalChangesNothing : Type 0
-RefusalChangesNothing = (fetched : Fetches) (scene : Scene) (line : List ℕ) → is_no (step fetched scene line).reply ≡ true
+RefusalChangesNothing = (fetched : Fetches) (scene : Scene) (line : List ℕ)
+    → is_no (step fetched scene line).reply ≡ true
     → ((step fetched scene line).scene ≡ scene) × ((step fetched scene line).placed ≡ None)
 
 -- a command that edits the scene
@@ -52,16 +56,21 @@ is_edit c = is_edit_way (way_of c)
 
 -- a line that is no edit leaves the scene
 abbrev pub QuestionsLeaveScene : Type 0
-QuestionsLeaveScene = (fetched : Fetches) (scene : Scene) (line : List ℕ) (c : Command) → command line ≡ Ok c → is_edit c ≡ false
+QuestionsLeaveScene = (fetched : Fetches) (scene : Scene) (line : List ℕ) (c : Command)
+    → command line ≡ Ok c
+    → is_edit c ≡ false
     → (step fetched scene line).scene ≡ scene
 
 -- an edit after which a formula would make a place out of the limits is refused
 abbrev pub OutOfLimitsIsRefused : Type 0
-OutOfLimitsIsRefused = (scene : Scene) (edit : Edit) → IsWell scene → all_stay (after scene edit) ≡ false → refusal scene edit ≢ None
+OutOfLimitsIsRefused = (scene : Scene) (edit : Edit) → IsWell scene
+    → all_stay (after scene edit) ≡ false
+    → refusal scene edit ≢ None
 
 -- a step never lacks memory, and its shelf never fails: that comes by a mark alone
 abbrev pub StepHasMemory : Type 0
-StepHasMemory = (fetched : Fetches) (scene : Scene) (line : List ℕ) → ((step fetched scene line).reply ≢ No Memory) × ((step fetched scene line).reply ≢ No Shelf)
+StepHasMemory = (fetched : Fetches) (scene : Scene) (line : List ℕ)
+    → ((step fetched scene line).reply ≢ No Memory) × ((step fetched scene line).reply ≢ No Shelf)
 
 -- the scene before the first line is well
 abbrev pub StartIsWell : Type 0
@@ -69,15 +78,19 @@ StartIsWell = IsWell start
 
 -- a line keeps a scene well
 abbrev pub StepsKeepWell : Type 0
-StepsKeepWell = (fetched : Fetches) (scene : Scene) (line : List ℕ) → IsWell scene → IsWell (step fetched scene line).scene
+StepsKeepWell = (fetched : Fetches) (scene : Scene) (line : List ℕ) → IsWell scene
+    → IsWell (step fetched scene line).scene
 
 -- an edit that is not refused keeps a scene well, where a figure that it states has a cell set
 abbrev pub EditsKeepWell : Type 0
-EditsKeepWell = (scene : Scene) (edit : Edit) → IsWell scene → EditFits edit → refusal scene edit ≡ None → IsWell (after scene edit)
+EditsKeepWell = (scene : Scene) (edit : Edit) → IsWell scene → EditFits edit
+    → refusal scene edit ≡ None
+    → IsWell (after scene edit)
 
 -- the value of a name is what its entry makes of the values of its operands
 abbrev pub ValuesFollowFormulas : Type 0
-ValuesFollowFormulas = (scene : Scene) (name : List ℕ) → IsWell scene → value scene name ≡ entry_value (entry_of scene.entries name) (value scene)
+ValuesFollowFormulas = (scene : Scene) (name : List ℕ) → IsWell scene
+    → value scene name ≡ entry_value (entry_of scene.entries name) (value scene)
 
 -- figures that follow the formulas are the values
 abbrev pub FormulasDetermineValues : Type 0
@@ -88,7 +101,8 @@ FormulasDetermineValues = (scene : Scene) (figures : List ℕ → Figure) → Is
 -- a name reaches what it reads, and what that reaches, and no more
 abbrev pub ReachingFollowsFormulas : Type 0
 ReachingFollowsFormulas = (scene : Scene) (name other : List ℕ) → IsWell scene
-    → reaches scene name other ≡ list_any (λ o. bytes_eq o other || reaches scene o other) (operands_of scene.entries name)
+    → reaches scene name other
+    ≡ list_any (λ o. bytes_eq o other || reaches scene o other) (operands_of scene.entries name)
 
 -- no name reaches itself
 abbrev pub NoneReachesItself : Type 0
@@ -101,47 +115,59 @@ NamesHaveOrder = (scene : Scene) → IsWell scene → (order : List (List ℕ)) 
 -- where they have one, operands stand, and no name reaches itself
 abbrev pub OrdersShowWell : Type 0
 OrdersShowWell = (scene : Scene) (order : List (List ℕ)) → IsOrderOf scene order
-    → ((name operand : List ℕ) → is_among operand (operands_of scene.entries name) ≡ true → stands scene operand ≡ true)
+    → ((x o : List ℕ) → is_among o (operands_of scene.entries x) ≡ true → stands scene o ≡ true)
     × ((name : List ℕ) → reaches scene name name ≡ false)
 
 -- the value of a shift has each cell of its operand, moved, and no other: none is lost at the limits
 abbrev pub ShiftsMoveAllCells : Type 0
-ShiftsMoveAllCells = (scene : Scene) (name operand : List ℕ) (nums : List ℤ) (e : Entry) → IsWell scene
+ShiftsMoveAllCells = (scene : Scene) (name operand : List ℕ) (nums : List ℤ) (e : Entry)
+    → IsWell scene
     → entry_of scene.entries name ≡ Some e → e.what ≡ Made (Shift operand nums)
     → (value scene name).cells ≡ map (added nums) (value scene operand).cells
 
 -- the value of a lift has each cell of its operand, with each height from lo up to, but not at, hi put in at its axis, and no
 -- other: none is lost at the limits
 abbrev pub LiftsKeepAllCells : Type 0
-LiftsKeepAllCells = (scene : Scene) (name operand : List ℕ) (axis lo hi height : ℤ) (cell : List ℤ) (e : Entry) → IsWell scene
-    → entry_of scene.entries name ≡ Some e → e.what ≡ Made (Lift operand axis lo hi) → length cell ≡ dim_of scene operand
+LiftsKeepAllCells
+    = (scene : Scene) (name operand : List ℕ) (axis lo hi height : ℤ) (cell : List ℤ) (e : Entry)
+    → IsWell scene
+    → entry_of scene.entries name ≡ Some e → e.what ≡ Made (Lift operand axis lo hi)
+    → length cell ≡ dim_of scene operand
     → has (value scene name).cells (with_at (nat_abs axis - 1) height cell)
     ≡ (has (value scene operand).cells cell && (int_le lo height && int_lt height hi))
 
 -- what a name reads stands
 abbrev pub OperandsStand : Type 0
-OperandsStand = (scene : Scene) (name operand : List ℕ) → IsWell scene → is_among operand (operands_of scene.entries name) ≡ true → stands scene operand ≡ true
+OperandsStand = (scene : Scene) (name operand : List ℕ) → IsWell scene
+    → is_among operand (operands_of scene.entries name) ≡ true → stands scene operand ≡ true
 
 -- the dimension of a name is that of its value
 abbrev pub DimIsOfValue : Type 0
-DimIsOfValue = (scene : Scene) (name : List ℕ) → IsWell scene → dim_of scene name ≡ (value scene name).dim
+DimIsOfValue = (scene : Scene) (name : List ℕ) → IsWell scene
+    → dim_of scene name ≡ (value scene name).dim
 
 -- each value is a cell set of its dimension
 abbrev pub ValuesAreCellSets : Type 0
-ValuesAreCellSets = (scene : Scene) (name : List ℕ) → IsWell scene → IsCellSet (value scene name).dim (value scene name).cells
+ValuesAreCellSets = (scene : Scene) (name : List ℕ) → IsWell scene
+    → IsCellSet (value scene name).dim (value scene name).cells
 
 -- an edit leaves the value of each other name that does not reach its own
 abbrev pub OthersStay : Type 0
-OthersStay = (scene : Scene) (edit : Edit) (other : List ℕ) → IsWell scene → bytes_eq other (name_of edit) ≡ false → reaches scene other (name_of edit) ≡ false
+OthersStay = (scene : Scene) (edit : Edit) (other : List ℕ) → IsWell scene
+    → bytes_eq other (name_of edit) ≡ false
+    → reaches scene other (name_of edit) ≡ false
     → value (after scene edit) other ≡ value scene other
 
 -- each other name stands after an edit where it stood before
 abbrev pub OthersStand : Type 0
-OthersStand = (scene : Scene) (edit : Edit) (other : List ℕ) → bytes_eq other (name_of edit) ≡ false → stands (after scene edit) other ≡ stands scene other
+OthersStand = (scene : Scene) (edit : Edit) (other : List ℕ) → bytes_eq other (name_of edit) ≡ false
+    → stands (after scene edit) other ≡ stands scene other
 
 -- a new input has no cell
 abbrev pub InputsStartEmpty : Type 0
-InputsStartEmpty = (scene : Scene) (name : List ℕ) (dim : ℤ) → IsWell scene → refusal scene (Input name dim) ≡ None → value (after scene (Input name dim)) name ≡ nothing (nat_abs dim)
+InputsStartEmpty = (scene : Scene) (name : List ℕ) (dim : ℤ) → IsWell scene
+    → refusal scene (Input name dim) ≡ None
+    → value (after scene (Input name dim)) name ≡ nothing (nat_abs dim)
 
 -- a box combines with the value of the name
 abbrev pub BoxesCombine : Type 0
@@ -152,83 +178,112 @@ BoxesCombine = (scene : Scene) (name : List ℕ) (nums : List ℤ) → stands sc
 
 -- another figure for a name is its value
 abbrev pub ReplacementsHold : Type 0
-ReplacementsHold = (scene : Scene) (name : List ℕ) (figure : Figure) → stands scene name ≡ true → value (after scene (Replace name figure)) name ≡ figure
+ReplacementsHold = (scene : Scene) (name : List ℕ) (figure : Figure) → stands scene name ≡ true
+    → value (after scene (Replace name figure)) name ≡ figure
 
 -- a definition gives its name what the formula makes of the values that the operands have before, and keep
 abbrev pub DefinitionsHold : Type 0
-DefinitionsHold = (scene : Scene) (name : List ℕ) (formula : Formula) → IsWell scene → refusal scene (Def name formula) ≡ None
+DefinitionsHold = (scene : Scene) (name : List ℕ) (formula : Formula) → IsWell scene
+    → refusal scene (Def name formula) ≡ None
     → value (after scene (Def name formula)) name ≡ formula_value formula (value scene)
 
 -- a dropped name does not stand
 abbrev pub DropsTakeOut : Type 0
-DropsTakeOut = (scene : Scene) (name : List ℕ) → IsWell scene → stands (after scene (Drop name)) name ≡ false
+DropsTakeOut = (scene : Scene) (name : List ℕ) → IsWell scene
+    → stands (after scene (Drop name)) name ≡ false
+
+-- an entry of a name, or of one that reaches it
+abbrev pub is_or_reaches : Scene → List ℕ → Entry → Bool
+is_or_reaches scene name e = bytes_eq e.name name || reaches scene e.name name
 
 -- an edit changes no names but its own and those that reach it
 abbrev pub ChangedReachName : Type 0
 ChangedReachName = (scene : Scene) (edit : Edit) → IsWell scene
-    → changed scene edit ≤ count_by (λ (e : Entry). bytes_eq e.name (name_of edit) || reaches scene e.name (name_of edit)) scene.entries
+    → changed scene edit ≤ count_by (is_or_reaches scene (name_of edit)) scene.entries
 
 -- an edit that makes its name changes no other
 abbrev pub NewNamesChangeNone : Type 0
-NewNamesChangeNone = (scene : Scene) (edit : Edit) → IsWell scene → stands scene (name_of edit) ≡ false → changed scene edit ≡ 0
+NewNamesChangeNone = (scene : Scene) (edit : Edit) → IsWell scene
+    → stands scene (name_of edit) ≡ false
+    → changed scene edit ≡ 0
 
 -- nor does a drop that is not refused
 abbrev pub DropsChangeNone : Type 0
-DropsChangeNone = (scene : Scene) (name : List ℕ) → IsWell scene → refusal scene (Drop name) ≡ None → changed scene (Drop name) ≡ 0
+DropsChangeNone = (scene : Scene) (name : List ℕ) → IsWell scene → refusal scene (Drop name) ≡ None
+    → changed scene (Drop name) ≡ 0
 
 -- another figure under a name that no formula reads changes that name alone, or none where the figure is the same
 abbrev pub OneNameChanges : Type 0
-OneNameChanges = (scene : Scene) (name : List ℕ) (new : Figure) → IsWell scene → stands scene name ≡ true → is_read scene name ≡ false
-    → changed_names scene (with_figure scene name new) ≡ (if same_figure (value scene name) new then 0 else 1)
+OneNameChanges = (scene : Scene) (name : List ℕ) (new : Figure) → IsWell scene
+    → stands scene name ≡ true
+    → is_read scene name ≡ false
+    → changed_names scene (with_figure scene name new)
+    ≡ (if same_figure (value scene name) new then 0 else 1)
 
 -- the figure that a name has already changes no value
 abbrev pub SameFigureStays : Type 0
-SameFigureStays = (scene : Scene) (name other : List ℕ) → IsWell scene → value (with_figure scene name (value scene name)) other ≡ value scene other
+SameFigureStays = (scene : Scene) (name other : List ℕ) → IsWell scene
+    → value (with_figure scene name (value scene name)) other ≡ value scene other
 
 -- a toggle that is not refused always changes its name
 abbrev pub ToggleChangesName : Type 0
-ToggleChangesName = (scene : Scene) (name : List ℕ) (nums : List ℤ) → IsWell scene → refusal scene (Toggle name nums) ≡ None
+ToggleChangesName = (scene : Scene) (name : List ℕ) (nums : List ℤ) → IsWell scene
+    → refusal scene (Toggle name nums) ≡ None
     → same_figure (value scene name) (value (after scene (Toggle name nums)) name) ≡ false
 
 -- and so counts at least that name
 abbrev pub ToggleCountsName : Type 0
-ToggleCountsName = (scene : Scene) (name : List ℕ) (nums : List ℤ) → IsWell scene → refusal scene (Toggle name nums) ≡ None → 1 ≤ changed scene (Toggle name nums)
+ToggleCountsName = (scene : Scene) (name : List ℕ) (nums : List ℤ) → IsWell scene
+    → refusal scene (Toggle name nums) ≡ None → 1 ≤ changed scene (Toggle name nums)
 
 -- ---- loads and saves
 
 -- a load depends on what is fetched under its file name alone
 abbrev pub LoadsReadTheirFile : Type 0
-LoadsReadTheirFile = (f g : Fetches) (scene : Scene) (line name file : List ℕ) (form : LoadForm) → command line ≡ Ok (commands.Load name form file)
+LoadsReadTheirFile = (f g : Fetches) (scene : Scene) (line name file : List ℕ) (form : LoadForm)
+    → command line ≡ Ok (commands.Load name form file)
     → f file ≡ g file → step f scene line ≡ step g scene line
 
 -- a line that fetches no file is the same whatever fetches give
 abbrev pub OthersReadNone : Type 0
-OthersReadNone = (f g : Fetches) (scene : Scene) (line : List ℕ) → fetches scene line ≡ false → step f scene line ≡ step g scene line
+OthersReadNone = (f g : Fetches) (scene : Scene) (line : List ℕ) → fetches scene line ≡ false
+    → step f scene line ≡ step g scene line
 
 -- a load that is not refused gives its name the figure that the fetched bytes state
 abbrev pub LoadsTakeFigure : Type 0
-LoadsTakeFigure = (fetched : Fetches) (scene : Scene) (line name file : List ℕ) (form : LoadForm) → command line ≡ Ok (commands.Load name form file)
+LoadsTakeFigure = (fetched : Fetches) (scene : Scene) (line name file : List ℕ) (form : LoadForm)
+    → command line ≡ Ok (commands.Load name form file)
     → is_no (step fetched scene line).reply ≡ false
-    → figure_fetched form (dim_of scene name) (fetched file) ≡ Some (value (step fetched scene line).scene name)
+    → figure_fetched form (dim_of scene name) (fetched file)
+    ≡ Some (value (step fetched scene line).scene name)
 
 -- a load is answered that there is no file exactly where it fetches and nothing is there
 abbrev pub MissingIsNoFile : Type 0
-MissingIsNoFile = (fetched : Fetches) (scene : Scene) (line name file : List ℕ) (form : LoadForm) → command line ≡ Ok (commands.Load name form file)
-    → ((step fetched scene line).reply ≡ No Missing) ↔ ((fetches scene line ≡ true) × (fetched file ≡ None))
+MissingIsNoFile = (fetched : Fetches) (scene : Scene) (line name file : List ℕ) (form : LoadForm)
+    → command line ≡ Ok (commands.Load name form file)
+    → ((step fetched scene line).reply ≡ No Missing)
+    ↔ ((fetches scene line ≡ true) × (fetched file ≡ None))
 
 -- no line is so answered that fetches no file
 abbrev pub MissingIsFetched : Type 0
-MissingIsFetched = (fetched : Fetches) (scene : Scene) (line : List ℕ) → fetches scene line ≡ false → (step fetched scene line).reply ≢ No Missing
+MissingIsFetched = (fetched : Fetches) (scene : Scene) (line : List ℕ) → fetches scene line ≡ false
+    → (step fetched scene line).reply ≢ No Missing
+
+-- bytes were fetched that state no figure in a form
+abbrev pub StatesNone : LoadForm → ℕ → Option (List ℕ) → Type 0
+StatesNone form n got = (bytes : List ℕ) × (got ≡ Some bytes) × (figure_in form n bytes ≡ None)
 
 -- a load is answered that bytes are none of its form exactly where it fetches bytes that state no figure in it
 abbrev pub FormIsNoFigure : Type 0
-FormIsNoFigure = (fetched : Fetches) (scene : Scene) (line name file : List ℕ) (form : LoadForm) → command line ≡ Ok (commands.Load name form file)
+FormIsNoFigure = (fetched : Fetches) (scene : Scene) (line name file : List ℕ) (form : LoadForm)
+    → command line ≡ Ok (commands.Load name form file)
     → ((step fetched scene line).reply ≡ No Form)
-    ↔ ((fetches scene line ≡ true) × ((bytes : List ℕ) × (fetched file ≡ Some bytes) × (figure_in form (dim_of scene name) bytes ≡ None)))
+    ↔ ((fetches scene line ≡ true) × StatesNone form (dim_of scene name) (fetched file))
 
 -- a save that is not refused places the bytes of the value of its name
 abbrev pub SavesPlaceValues : Type 0
-SavesPlaceValues = (fetched : Fetches) (scene : Scene) (line name file : List ℕ) (form : SaveForm) → command line ≡ Ok (commands.Save name form file)
+SavesPlaceValues = (fetched : Fetches) (scene : Scene) (line name file : List ℕ) (form : SaveForm)
+    → command line ≡ Ok (commands.Save name form file)
     → is_no (step fetched scene line).reply ≡ false
     → (step fetched scene line).placed ≡ Some (file, bytes_in form (value scene name))
 
@@ -242,12 +297,15 @@ is_save c = is_save_way (way_of c)
 
 -- a line that is no save places no file
 abbrev pub OnlySavesPlace : Type 0
-OnlySavesPlace = (fetched : Fetches) (scene : Scene) (line : List ℕ) → of_line is_save (command line) ≡ false → (step fetched scene line).placed ≡ None
+OnlySavesPlace = (fetched : Fetches) (scene : Scene) (line : List ℕ)
+    → of_line is_save (command line) ≡ false
+    → (step fetched scene line).placed ≡ None
 
 -- a line asks the shelf exactly where it fetches a file or is a save that its step does not refuse
 abbrev pub ShelfIsAsked : Type 0
 ShelfIsAsked = (fetched : Fetches) (scene : Scene) (line : List ℕ)
-    → asks scene line ≡ (fetches scene line || (of_line is_save (command line) && not (is_no (step fetched scene line).reply)))
+    → asks scene line
+    ≡ (fetches scene line || (of_line is_save (command line) && not (is_no (step fetched scene line).reply)))
 
 -- two solids are saved in equal bytes exactly if they are equal
 abbrev pub SavedBytesTellSolids : Type 0
@@ -256,8 +314,11 @@ SavedBytesTellSolids = (a b : Figure) → IsSolidCells a.dim a.cells → IsSolid
 
 -- so two names of one dimension are, exactly if they have the same cells
 abbrev pub SavedBytesTellNames : Type 0
-SavedBytesTellNames = (scene : Scene) (x y : List ℕ) → IsWell scene → stands scene x ≡ true → stands scene y ≡ true → dim_of scene x ≡ dim_of scene y
-    → (bytes_in saves.Evm (value scene x) ≡ bytes_in saves.Evm (value scene y)) ↔ ((value scene x).cells ≡ (value scene y).cells)
+SavedBytesTellNames = (scene : Scene) (x y : List ℕ) → IsWell scene → stands scene x ≡ true
+    → stands scene y ≡ true
+    → dim_of scene x ≡ dim_of scene y
+    → (bytes_in saves.Evm (value scene x) ≡ bytes_in saves.Evm (value scene y))
+    ↔ ((value scene x).cells ≡ (value scene y).cells)
 
 -- bytes state a solid as an EVM file exactly if it is saved in these bytes
 abbrev pub SavedBytesLoad : Type 0
@@ -266,22 +327,27 @@ SavedBytesLoad = (bytes : List ℕ) (a : Figure) → IsSolidCells a.dim a.cells
 
 -- each figure that bytes state is a cell set of the dimension that was asked for, where the form fits it
 abbrev pub FiguresAreCellSets : Type 0
-FiguresAreCellSets = (form : LoadForm) (n : ℕ) (bytes : List ℕ) (a : Figure) → is_dim (pos n) ≡ true → form_fits form n ≡ true → figure_in form n bytes ≡ Some a
+FiguresAreCellSets = (form : LoadForm) (n : ℕ) (bytes : List ℕ) (a : Figure) → is_dim (pos n) ≡ true
+    → form_fits form n ≡ true → figure_in form n bytes ≡ Some a
     → (a.dim ≡ n) × IsCellSet a.dim a.cells
 
 -- ---- runs
 
 -- a refused line leaves the scene and the files
 abbrev pub RefusedLeavesWorld : Type 0
-RefusedLeavesWorld = (world : World) (line : List ℕ) (mark : Mark) → is_no (answer world line mark).reply ≡ true → (answer world line mark).world ≡ world
+RefusedLeavesWorld = (world : World) (line : List ℕ) (mark : Mark)
+    → is_no (answer world line mark).reply ≡ true
+    → (answer world line mark).world ≡ world
 
 -- a line keeps the scene of a world well
 abbrev pub AnswersKeepWell : Type 0
-AnswersKeepWell = (world : World) (line : List ℕ) (mark : Mark) → IsWell world.scene → IsWell (answer world line mark).world.scene
+AnswersKeepWell = (world : World) (line : List ℕ) (mark : Mark) → IsWell world.scene
+    → IsWell (answer world line mark).world.scene
 
 -- the scene of a world that a run leaves is well
 abbrev pub RunsKeepWell : Type 0
-RunsKeepWell = (world : World) (ls : List (List ℕ)) (marks : List Mark) → IsWell world.scene → IsWell (world_after world ls marks).scene
+RunsKeepWell = (world : World) (ls : List (List ℕ)) (marks : List Mark) → IsWell world.scene
+    → IsWell (world_after world ls marks).scene
 
 -- whether a command saves to a file of this name
 abbrev pub saves_to : List ℕ → Command → Bool
@@ -290,37 +356,49 @@ saves_to file _ = false
 
 -- a run leaves each file to which none of its lines saves
 abbrev pub RunLeavesFiles : Type 0
-RunLeavesFiles = (world : World) (ls : List (List ℕ)) (marks : List Mark) (file : List ℕ) → list_any (λ line. of_line (saves_to file) (command line)) ls ≡ false
+RunLeavesFiles = (world : World) (ls : List (List ℕ)) (marks : List Mark) (file : List ℕ)
+    → list_any (λ line. of_line (saves_to file) (command line)) ls ≡ false
     → fetched_from (world_after world ls marks).files file ≡ fetched_from world.files file
 
 -- the last file that was saved under a name is there
 abbrev pub SavedFileIsThere : Type 0
-SavedFileIsThere = (world : World) (line name file : List ℕ) (form : SaveForm) (mark : Mark) → command line ≡ Ok (commands.Save name form file)
+SavedFileIsThere = (world : World) (line name file : List ℕ) (form : SaveForm) (mark : Mark)
+    → command line ≡ Ok (commands.Save name form file)
     → is_no (answer world line mark).reply ≡ false
-    → fetched_from (answer world line mark).world.files file ≡ Some (bytes_in form (value world.scene name))
+    → fetched_from (answer world line mark).world.files file
+    ≡ Some (bytes_in form (value world.scene name))
 
 -- a line of a shelf that does not tell its files is that of one that does, where the fetched bytes are those of its file
 abbrev pub FetchedIsTold : Type 0
-FetchedIsTold = (world : World) (line name file : List ℕ) (form : LoadForm) (got : Option (List ℕ)) → command line ≡ Ok (commands.Load name form file)
-    → fetched_from world.files file ≡ got → answer world line (Fetched got) ≡ answer world line Plain
+FetchedIsTold = (world : World) (line name file : List ℕ) (form : LoadForm) (got : Option (List ℕ))
+    → command line ≡ Ok (commands.Load name form file)
+    → fetched_from world.files file ≡ got
+    → answer world line (Fetched got) ≡ answer world line Plain
 
 -- each line is answered once, as far as there are marks
 abbrev pub OneReplyEach : Type 0
-OneReplyEach = (world : World) (ls : List (List ℕ)) (marks : List Mark) → length marks ≤ length ls → length (run world ls marks) ≡ length marks
+OneReplyEach = (world : World) (ls : List (List ℕ)) (marks : List Mark) → length marks ≤ length ls
+    → length (run world ls marks) ≡ length marks
 
 -- the replies to a front of the lines are the front of the replies
 abbrev pub FrontOfRun : Type 0
-FrontOfRun = (world : World) (ls : List (List ℕ)) (marks : List Mark) (k : ℕ) → run world ls (take k marks) ≡ take k (run world ls marks)
+FrontOfRun = (world : World) (ls : List (List ℕ)) (marks : List Mark) (k : ℕ)
+    → run world ls (take k marks) ≡ take k (run world ls marks)
 
 -- later lines change no earlier reply, and not the world at that time
 abbrev pub LaterLinesWait : Type 0
-LaterLinesWait = (world : World) (ls more : List (List ℕ)) (marks : List Mark) → length marks ≤ length ls
-    → (run world (ls ++ more) marks ≡ run world ls marks) × (world_after world (ls ++ more) marks ≡ world_after world ls marks)
+LaterLinesWait = (world : World) (ls more : List (List ℕ)) (marks : List Mark)
+    → length marks ≤ length ls
+    → (run world (ls ++ more) marks ≡ run world ls marks)
+    × (world_after world (ls ++ more) marks ≡ world_after world ls marks)
 
 -- no line has an LF
 abbrev pub LinesHaveNoLf : Type 0
-LinesHaveNoLf = (script : List ℕ) → list_all (λ line. not (list_any (λ b. nat_eq b 10) line)) (lines script) ≡ true
+LinesHaveNoLf = (script : List ℕ)
+    → list_all (λ line. not (list_any (λ b. nat_eq b 10) line)) (lines script) ≡ true
 
 -- the lines, each with an LF behind it, are the script, to whose last line an LF may have been added
 abbrev pub LinesMakeScript : Type 0
-LinesMakeScript = (script : List ℕ) → (flat_map line_of (lines script) ≡ script) ⊎ (flat_map line_of (lines script) ≡ script ++ 10 ∷ [])
+LinesMakeScript = (script : List ℕ)
+    → (flat_map line_of (lines script) ≡ script)
+    ⊎ (flat_map line_of (lines script) ≡ script ++ 10 ∷ [])

@@ -70,7 +70,8 @@ unfoldable pub reply_text : Reply → List ℕ
 reply_text Empty = []
 reply_text (No code) = line_of (codes "no " ++ code_text code)
 reply_text (Changed n) = line_of (codes "ok " ++ decimal n)
-reply_text (Shown a) = line_of (codes "ok " ++ decimal a.dim ++ 32 ∷ decimal (length (vertices_in a))) ++ rows_text (vertices_in a)
+reply_text (Shown a) = line_of (codes "ok " ++ decimal a.dim ++ 32 ∷ decimal (length (vertices_in a)))
+    ++ rows_text (vertices_in a)
 reply_text (Measured n) = line_of (codes "ok " ++ decimal n)
 reply_text (Filled full) = line_of (codes "ok " ++ (if full then codes "filled" else codes "empty"))
 reply_text (Placed place) = line_of (codes "ok " ++ place_text place)

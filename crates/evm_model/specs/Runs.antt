@@ -1,6 +1,6 @@
 -- Whole runs: the lines of a script in order, each with a mark that says how it went, over the files of a shelf.
-use Rattle.std.specs.Prelude.{ℕ, Bool, true, not, ◌&&◌, ◌||◌, nat_eq, List, [], ◌∷◌, Option, None, Some, flat_map}
-use Rattle.std.specs.List.{slice_split, list_any}
+use Rattle.std.specs.Prelude.{ℕ, Bool, true, not, ◌&&◌, ◌||◌, List, [], ◌∷◌, Option, None, Some, flat_map}
+use Rattle.std.specs.List.{list_any}
 use Rattle.std.specs.FinMap as finite
 use Rattle.evm_outside.specs.Shelves.{Files}
 use Rattle.evm_model.specs.Files.{Fetches}
@@ -34,7 +34,8 @@ pub record Answer : Type 0 where
 
 -- what a turn makes of the files
 abbrev pub turned : Files → Turn → Answer
-turned files turn = record { reply = turn.reply; world = record { scene = turn.scene; files = with_placed files turn.placed } }
+turned files turn =
+    record { reply = turn.reply; world = record { scene = turn.scene; files = with_placed files turn.placed } }
 
 -- what files give where a name is fetched
 abbrev pub fetched_from : Files → Fetches
@@ -70,7 +71,8 @@ may_all_have told world (line ∷ more) (mark ∷ marks) =
 abbrev pub run : World → List (List ℕ) → List Mark → List Reply
 run world [] marks = []
 run world (line ∷ more) [] = []
-run world (line ∷ more) (mark ∷ marks) = (answer world line mark).reply ∷ run (answer world line mark).world more marks
+run world (line ∷ more) (mark ∷ marks) = (answer world line mark).reply
+    ∷ run (answer world line mark).world more marks
 
 -- the world after these lines
 abbrev pub world_after : World → List (List ℕ) → List Mark → World

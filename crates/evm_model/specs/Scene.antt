@@ -1,9 +1,8 @@
 -- A scene: names in the order of their making, each with a dimension and what it stands for.
-use Rattle.std.specs.Prelude.{ℕ, zero, suc, ◌≡◌, ◌+◌, ◌-◌, ◌*◌, ◌==◌, Bool, true, false, not, ◌&&◌, ◌||◌, if◌then◌else◌, ℤ, pos, nat_abs, int_le, int_lt, List, [], ◌∷◌, ◌++◌, length, Option, None, Some, find, is_some, bytes_eq}
+use Rattle.std.specs.Prelude.{ℕ, zero, suc, ◌≡◌, Bool, true, false, not, ◌&&◌, ◌||◌, if◌then◌else◌, ℤ, pos, List, [], ◌∷◌, ◌++◌, length, Option, None, Some, find, is_some, bytes_eq}
 use Rattle.std.specs.List.{list_any, list_all}
 use Rattle.evm_cells.specs.Places.{ascending}
-use Rattle.evm_cells.specs.Limits.{is_cell, is_cell_coord, is_point_coord}
-use Rattle.evm_cells.specs.Shapes.{is_shift}
+use Rattle.evm_cells.specs.Limits.{is_cell}
 use Rattle.evm_script.specs.declared.formula.Formula.{Formula}
 use Rattle.evm_model.specs.Figures.{Figure, nothing}
 use Rattle.evm_model.specs.Formulas.{parts_of, parts_dim, parts_fit, parts_in_range, parts_are_sound}
@@ -108,7 +107,8 @@ all_stay scene = list_all (λ (e : Entry). what_stays e.what (value scene)) scen
 -- whether a name reads another, or reads one that reaches it, through so many levels of operands
 abbrev pub reaches_within : ℕ → List Entry → List ℕ → List ℕ → Bool
 reaches_within zero entries x y = false
-reaches_within (suc n) entries x y = list_any (λ o. bytes_eq o y || reaches_within n entries o y) (operands_of entries x)
+reaches_within (suc n) entries x y =
+    list_any (λ o. bytes_eq o y || reaches_within n entries o y) (operands_of entries x)
 
 -- whether a name reaches another through its operands
 abbrev pub reaches : Scene → List ℕ → List ℕ → Bool
@@ -128,23 +128,32 @@ abbrev pub without_entry : List Entry → List ℕ → List Entry
 without_entry [] name = []
 without_entry (e ∷ es) name = if has_name name e then es else e ∷ without_entry es name
 
+-- the entry of an input with a figure
+abbrev pub given_entry : List ℕ → Figure → Entry
+given_entry name figure = record { name = name; dim = figure.dim; what = Given figure.cells }
+
 -- the scene with another figure under the name of an input
 abbrev pub with_figure : Scene → List ℕ → Figure → Scene
-with_figure scene name new = record scene { entries = with_entry scene.entries name (record { name = name; dim = new.dim; what = Given new.cells }) }
+with_figure scene name new = record scene { entries = with_entry scene.entries name (given_entry name new) }
 
 -- the scene with a new name at its end
 abbrev pub with_new : Scene → List ℕ → ℕ → What → Scene
-with_new scene name dim what = record scene { entries = scene.entries ++ record { name = name; dim = dim; what = what } ∷ [] }
+with_new scene name dim what =
+    record scene { entries = scene.entries ++ record { name = name; dim = dim; what = what } ∷ [] }
 
 -- the dimension of a formula
 abbrev pub formula_dim : Scene → Formula → ℕ
 formula_dim scene formula = parts_dim (parts_of formula) (dim_of scene)
 
+-- the entry of a name with a formula
+abbrev pub made_entry : Scene → List ℕ → Formula → Entry
+made_entry scene name formula = record { name = name; dim = formula_dim scene formula; what = Made formula }
+
 -- the scene with this formula under a name: in the name's place, or at the end where the name does not stand
 abbrev pub with_formula : Scene → List ℕ → Formula → Scene
 with_formula scene name formula =
     if stands scene name
-    then record scene { entries = with_entry scene.entries name (record { name = name; dim = formula_dim scene formula; what = Made formula }) }
+    then record scene { entries = with_entry scene.entries name (made_entry scene name formula) }
     else with_new scene name (formula_dim scene formula) (Made formula)
 
 -- the scene without a name

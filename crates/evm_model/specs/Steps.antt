@@ -31,7 +31,8 @@ unless_refused (Some code) scene turn = stays scene (No code)
 
 -- an edit that is refused or made, with this reply
 abbrev pub edited : Scene → Edit → Reply → Turn
-edited scene edit reply = unless_refused (refusal scene edit) scene (record { reply = reply; scene = after scene edit; placed = None })
+edited scene edit reply =
+    unless_refused (refusal scene edit) scene (record { reply = reply; scene = after scene edit; placed = None })
 
 -- a question that is refused by one of these causes or answered
 abbrev pub asked : List (Bool × Code) → Scene → Reply → Turn
@@ -48,7 +49,8 @@ load_causes scene name form =
 
 -- the figure that a load puts in place of that of an input
 abbrev pub loaded : Fetches → Scene → List ℕ → LoadForm → List ℕ → Figure
-loaded fetched scene name form file = or_nothing (dim_of scene name) (figure_fetched form (dim_of scene name) (fetched file))
+loaded fetched scene name form file =
+    or_nothing (dim_of scene name) (figure_fetched form (dim_of scene name) (fetched file))
 
 -- what refuses a load by its file: there is none, its bytes are none of the form, or a formula would make a place out of the
 -- limits
@@ -86,6 +88,10 @@ pub data Way : Type 0 where
   Loads : List ℕ → LoadForm → List ℕ → Way
   Saves : List ℕ → SaveForm → List ℕ → Way
 
+-- a question about the value of a name
+abbrev pub of_value : List ℕ → (Scene → List (Bool × Code)) → (Figure → Reply) → Way
+of_value name causes answer = Asks causes (λ scene. answer (value scene name))
+
 -- the way of a command
 abbrev pub way_of : Command → Way
 way_of commands.Blank = Asks (λ scene. []) (λ scene. Empty)
@@ -97,16 +103,19 @@ way_of (commands.Load name form file) = Loads name form file
 way_of (commands.Def name formula) = Edits (Def name formula)
 way_of (commands.Drop name) = Edits (Drop name)
 way_of commands.List = Asks (λ scene. []) (λ scene. Listed scene.entries)
-way_of (commands.Show name) = Asks (λ scene. name_causes scene name) (λ scene. Shown (value scene name))
+way_of (commands.Show name) = of_value name (λ scene. name_causes scene name) (λ a. Shown a)
 way_of (commands.Section name axis at) =
-    Asks (λ scene. section_causes scene name axis at) (λ scene. Shown (slice_of (nat_abs axis) at (value scene name)))
-way_of (commands.Project name axis) = Asks (λ scene. axis_causes scene name axis) (λ scene. Shown (proj_of (nat_abs axis) (value scene name)))
-way_of (commands.Content name) = Asks (λ scene. name_causes scene name) (λ scene. Measured (content_of (value scene name)))
-way_of (commands.Boundary name) = Asks (λ scene. name_causes scene name) (λ scene. Measured (boundary_of (value scene name)))
+    of_value name (λ scene. section_causes scene name axis at) (λ a. Shown (slice_of (nat_abs axis) at a))
+way_of (commands.Project name axis) =
+    of_value name (λ scene. axis_causes scene name axis) (λ a. Shown (proj_of (nat_abs axis) a))
+way_of (commands.Content name) = of_value name (λ scene. name_causes scene name) (λ a. Measured (content_of a))
+way_of (commands.Boundary name) = of_value name (λ scene. name_causes scene name) (λ a. Measured (boundary_of a))
 way_of (commands.At name nums) =
-    Asks (λ scene. place_causes scene name nums (is_cell_coord (dim_of scene name))) (λ scene. Filled (fills (value scene name) nums))
+    of_value name (λ scene. place_causes scene name nums (is_cell_coord (dim_of scene name)))
+    (λ a. Filled (fills a nums))
 way_of (commands.Point name nums) =
-    Asks (λ scene. place_causes scene name nums (is_point_coord (dim_of scene name))) (λ scene. Placed (place_of (value scene name) nums))
+    of_value name (λ scene. place_causes scene name nums (is_point_coord (dim_of scene name)))
+    (λ a. Placed (place_of a nums))
 way_of (commands.Save name form file) = Saves name form file
 
 -- the answer to an edit: how many names it changes, which is none where it makes its name or takes it out
