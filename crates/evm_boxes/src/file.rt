@@ -32,7 +32,7 @@ pub fn read_boxes(alloc: Global, dim: usize, bytes: &[u8]) -> Result<Solid, BoxF
     ensures dim { IfOk result (λ s. s.dim ≡ dim) }
     ensures answer { Reads result (file_cells dim bytes.now) }
 
-    // These come whatever memory there is.
+    // Memory is asked for a box alone, so these come whatever memory there is.
     ensures head { IsErrOf result BoxFileError.Head ↔ (file_cells dim bytes.now ≡ Err BoxFileError.Head) }
     ensures other_dim { IsErrOf result BoxFileError.Dim ↔ (file_cells dim bytes.now ≡ Err BoxFileError.Dim) }
     ensures memory { IsErrOf result BoxFileError.NoMemory → HasBoxes (boxes_of_file dim) (lines bytes.now) }
