@@ -51,7 +51,7 @@ fn squares(rt: HostRuntime) {
 // A cube, a box of six dimensions, and a square as large as the limits allow.
 #[test]
 fn blocks(rt: HostRuntime) {
-    let limit = 524_288;
+    let limit = 1_073_741_824;
     let table: [(&[i32], &[i32], &[i32], Place, bool); 9] = [
         (&[0, 0, 0], &[2, 2, 2], &[1, 1, 1], Place::Inside, true),
         (&[0, 0, 0], &[2, 2, 2], &[1, 1, 2], Place::Boundary, false),

@@ -12,7 +12,7 @@ use Rattle.evm_model.specs.Scene.{Scene, Entry, Given, entry_of, entry_operands,
 use Rattle.evm_model.proofs.Names.{by_name, by_test, among_none, name_itself}
 use Rattle.evm_model.proofs.Lookups.{found_passes, none_stands, with_own, with_other}
 use Rattle.evm_model.proofs.Levels.{along}
-use Rattle.evm_model.proofs.WellScenes.{well_value}
+use Rattle.evm_model.proofs.WellScenes.{well_order, well_value}
 use Rattle.evm_model.proofs.WellEdits.{well_figure}
 use Rattle.evm_scene.specs.declared.node.Node.{Node}
 use Rattle.evm_scene.specs.declared.node.Change.{Change}
@@ -75,9 +75,10 @@ module _ (t : Table) (name : List ℕ) (old : Pending) (h : IsHalted t name old)
   -- each name that was seen has its value
   seen_value : (x : List ℕ) → Claim x
   seen_value x =
-      by_test (is_among x well.order)
-      (λ l. along (operands_of u.entries) Claim from_operands [] well.order well.ordered (λ y m. among_none y m) x l)
-      (λ out. from_operands x (λ o m. among_none o (subst (λ (e : Option Entry). is_among o (entry_operands e) ≡ true) (none_stands u.entries x (sym (well.whole x) ∙ out)) m)))
+      let (order, is) = well_order u well in
+      by_test (is_among x order)
+      (λ l. along (operands_of u.entries) Claim from_operands [] order is.ordered (λ y m. among_none y m) x l)
+      (λ out. from_operands x (λ o m. among_none o (subst (λ (e : Option Entry). is_among o (entry_operands e) ≡ true) (none_stands u.entries x (sym (is.whole x) ∙ out)) m)))
 
   last_out : entry_stays (entry_of u.entries h.last) (value u) ≡ false
   last_out =

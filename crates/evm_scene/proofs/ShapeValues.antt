@@ -7,7 +7,7 @@ use Rattle.evm_rows.specs.Rows.{Vertices, cells_of}
 use Rattle.evm_delta.specs.declared.shapes.Op1.{Op1}
 use Rattle.evm_delta.specs.declared.shapes.Op1.TheVariants.{Shift, Mirror, Swap, Clip, Slice, Proj, Lift}
 use Rattle.evm_delta.specs.Shapes.{op1_dim, op1_cells, in_range, changed_cells, shape_before, shape_after}
-use Rattle.evm_model.specs.Figures.{Figure, shift_of, shift_stays, mirror_of, swap_of, clip_of, slice_of, proj_of, lift_of, xor_of}
+use Rattle.evm_model.specs.Figures.{Figure, shift_of, shift_stays, mirror_of, swap_of, clip_of, slice_of, proj_of, lift_of, lift_stays, xor_of}
 use Rattle.evm_scene.specs.declared.node.Change.{Change}
 use Rattle.evm_scene.specs.Tables.{figure_of}
 use Rattle.evm_scene.specs.Changes.{after_of, IsChange}
@@ -35,7 +35,7 @@ shape_cells (Proj axis) a = refl
 shape_cells (Lift axis lo hi) a = refl
 
 pub stays_is : (op : Op1) (a : Figure) → shape_stays op a ≡ in_range op a.dim a.cells
-unfolding shift_stays
+unfolding shift_stays lift_stays
 stays_is (Shift by) a = refl
 stays_is (Mirror axis) a = refl
 stays_is (Swap i j) a = refl

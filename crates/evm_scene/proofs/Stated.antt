@@ -1,20 +1,18 @@
 -- The numbers that formulas state, and the dimensions that they ask for.
-use Rattle.std.proofs.Common.{◌≡◌, ℕ, ◌≤◌, true, List, Option, None, Some, is_some, true≢false, lit≤, ℤ, pos, neg_ℤ, int_le, int_lt, sym, arith}
+use Rattle.std.proofs.Common.{◌≡◌, ℕ, ◌+◌, ◌≤◌, true, List, Option, None, Some, is_some, true≢false, lit≤, ℤ, pos, neg_ℤ, int_le, int_lt, sym, add-one, arith}
 use Rattle.std.proofs.lemmas.Int.{ints as int_facts}
 use Rattle.evm_cells.specs.Limits.{limit, is_cell_coord, is_point_coord}
 use Rattle.evm_model.specs.Scene.{is_dim}
 use Rattle.evm_scene.specs.declared.node.Node.{Node}
 use Rattle.evm_scene.specs.Tables.{node_dim, NodeSized}
 use Rattle.evm_cells.proofs.Xor.{and_first, and_second, and_both}
-use Rattle.evm_cells.proofs.Coords.{le_yes, le_is, lt_is}
+use Rattle.evm_cells.proofs.Coords.{le_is, cell_is, cell_coord-falls, point_yes}
 
--- a coordinate of cells is one of points
-pub cell_point : (m n : ℕ) (x : ℤ) → is_cell_coord m x ≡ true → is_point_coord n x ≡ true
-unfolding is_cell_coord is_point_coord limit
-cell_point m n x h =
-    let low = le_is (neg_ℤ (pos (limit m))) x (and_first (int_le (neg_ℤ (pos (limit m))) x) (int_lt x (pos (limit m))) h) in
-    let high = lt_is x (pos (limit m)) (and_second (int_le (neg_ℤ (pos (limit m))) x) (int_lt x (pos (limit m))) h) in
-    and_both (int_le (neg_ℤ (pos (limit n))) x) (int_le x (pos (limit n))) (le_yes (neg_ℤ (pos (limit n))) x (omega (arith, int_facts, low))) (le_yes x (pos (limit n)) (omega (arith, int_facts, high)))
+-- a coordinate of cells is one of points of the dimension below
+pub cell_point : (n : ℕ) (x : ℤ) → is_cell_coord (n + 1) x ≡ true → is_point_coord n x ≡ true
+cell_point n x h =
+    let (low, high) = cell_is n x (cell_coord-falls n x (rw add-one at h)) in
+    point_yes n x low (omega (arith, int_facts, high))
 
 -- dimensions of named solids
 pub dim_low : (n : ℕ) → is_dim (pos n) ≡ true → 2 ≤ n

@@ -9,7 +9,7 @@ use Rattle.evm_model.specs.Edits as model
 use Rattle.evm_model.proofs.Names.{by_name, by_test, not_both, neither, among_none, passes_none, none_passes}
 use Rattle.evm_model.proofs.Counts.{changed_count}
 use Rattle.evm_model.proofs.FigureLaws.{same_itself}
-use Rattle.evm_model.proofs.WellScenes.{all_entries, well_operands}
+use Rattle.evm_model.proofs.WellScenes.{all_entries}
 use Rattle.evm_model.proofs.WellEdits.{unread}
 use Rattle.evm_model.proofs.EditLaws.{others_stay}
 use Rattle.evm_model.proofs.Stays.{unread_unreached}
@@ -37,7 +37,7 @@ not_read s well name h =
 pub absent_unread : (s : Scene) → IsWell s → (name : List ℕ) → stands s name ≡ false → is_read s name ≡ false
 absent_unread s well name out =
     not_read s well name
-    (λ x st. by_test (is_among name (operands_of s.entries x)) (λ m. not_both (stands s name) (well_operands s well x name m) out) (λ f. f))
+    (λ x st. by_test (is_among name (operands_of s.entries x)) (λ m. not_both (stands s name) (well.stand x name m) out) (λ f. f))
 
 and_false : (b : Bool) → (b && false) ≡ false
 and_false true = refl

@@ -6,7 +6,7 @@ use Rattle.evm_rows.specs.Rows.{Vertices}
 use Rattle.evm_script.specs.declared.formula.Formula.{Formula}
 use Rattle.evm_model.specs.Figures.{Figure}
 use Rattle.evm_model.specs.Orders.{is_among, Ordered}
-use Rattle.evm_model.specs.Scene.{Entry, What, Given, Made, entry_of, stands, dim_of, dim_of_entry, is_input, entry_is_given, what_is_given, entry_operands, what_operands, operands_of, entry_value, what_value, value, reaches, with_entry}
+use Rattle.evm_model.specs.Scene.{Entry, What, Given, Made, entry_of, stands, dim_of, dim_of_entry, is_input, entry_is_given, what_is_given, entry_operands, what_operands, operands_of, entry_value, what_value, value, reaches, with_entry, IsOrderOf}
 use Rattle.evm_model.proofs.Names.{same_name, name_itself}
 use Rattle.evm_model.proofs.Levels.{value_unique, reach_found, operands_stand, formula_same, formula_stays_same}
 use Rattle.evm_scene.specs.declared.node.Node.{Node}
@@ -123,6 +123,10 @@ module _ (t : Table) (order : List (List ℕ)) (k : IsKept t order) where
 
   pub entries_size : length order ≡ length (entries_of t)
   entries_size = k.size ∙ sym (length-entries t)
+
+  -- the order of the table is one of the scene that it shows
+  pub order_kept : IsOrderOf (scene_of t) order
+  order_kept = record { ordered = entries_ordered; whole = entries_whole; size = entries_size }
 
   -- the kept solid of a name is its value, evaluated from the inputs
   pub kept_is_value : (x : List ℕ) → kept t x ≡ value (scene_of t) x

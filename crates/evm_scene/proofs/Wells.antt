@@ -12,12 +12,12 @@ use Rattle.evm_model.specs.Orders.{is_among}
 use Rattle.evm_model.specs.Scene.{Scene, Entry, Given, has_name, entry_of, is_dim, names_differ, what_is_sound, what_stays, all_stay, value, with_figure, IsWell}
 use Rattle.evm_model.proofs.Lookups.{differ_with}
 use Rattle.evm_model.proofs.Counts.{AllDiffer, differ_distinct}
-use Rattle.evm_model.proofs.WellScenes.{all_entries, sound_cells}
+use Rattle.evm_model.proofs.WellScenes.{all_entries, ordered_stand, sound_cells}
 use Rattle.evm_scene.specs.declared.node.Node.{Node}
 use Rattle.evm_scene.specs.Tables.{Table, node_at, dim_at, node_stays, kept, MadeSized, NodeSized, what_of, entry_view, entries_of, scene_of}
 use Rattle.evm_scene.specs.Orders.{IsKept}
 use Rattle.evm_scene.proofs.FormulaLaws.{formula_sound}
-use Rattle.evm_scene.proofs.Views.{entry_at, entries_ordered, entries_whole, entries_size, kept_is_value, stays_same}
+use Rattle.evm_scene.proofs.Views.{entry_at, order_kept, kept_is_value, stays_same}
 use Rattle.evm_scene.proofs.Halted.{node_shown_stays}
 
 -- the names of a table
@@ -81,10 +81,8 @@ module _ (t : Table) (order : List (List ℕ)) (k : IsKept t order) where
     sound = all_entries (λ (e : Entry). what_is_sound (scene_of t) e.dim e.what) (entries_of t) (entries_apart t distinct)
         (by_node (λ e. what_is_sound (scene_of t) e.dim e.what ≡ true) node_sound);
     stay = kept_stay (entries_apart t distinct);
-    order = order;
-    ordered = entries_ordered t order k;
-    whole = entries_whole t order k;
-    size = entries_size t order k;
+    stand = (ordered_stand (scene_of t) order (order_kept t order k)).0;
+    acyclic = (ordered_stand (scene_of t) order (order_kept t order k)).1;
   }
 
 -- the same of the scene that a table shows

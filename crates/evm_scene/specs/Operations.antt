@@ -5,7 +5,7 @@ use Rattle.evm_delta.specs.declared.shapes.Op1.TheVariants as shapes
 use Rattle.evm_boolean.specs.declared.boolean.Op2.TheVariants as ops
 use Rattle.evm_script.specs.declared.formula.Formula.{Formula}
 use Rattle.evm_script.specs.declared.formula.Formula.TheVariants.{Or, And, Sub, Xor, Box, Shift, Mirror, Swap, Clip, Slice, Proj, Lift}
-use Rattle.evm_model.specs.Figures.{Figure, shift_of, shift_stays, mirror_of, swap_of, clip_of, slice_of, proj_of, lift_of}
+use Rattle.evm_model.specs.Figures.{Figure, shift_of, shift_stays, mirror_of, swap_of, clip_of, slice_of, proj_of, lift_of, lift_stays}
 use Rattle.evm_scene.specs.declared.operations.Operands.{Operands}
 use Rattle.evm_scene.specs.declared.operations.Operands.TheVariants.{Two, One, Zero}
 use Rattle.evm_scene.specs.declared.operations.Operation.{Operation}
@@ -50,4 +50,4 @@ shape_stays (shapes.Swap i j) a = true
 shape_stays (shapes.Clip nums) a = true
 shape_stays (shapes.Slice axis at) a = true
 shape_stays (shapes.Proj axis) a = true
-shape_stays (shapes.Lift axis lo hi) a = true
+shape_stays (shapes.Lift axis lo hi) a = lift_stays axis lo hi a

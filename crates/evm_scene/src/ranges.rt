@@ -2,7 +2,7 @@
 
 ghost use Rattle.std.specs.Prelude.{◌≡◌, ◌<◌, ◌≤◌, ◌+◌, ◌-◌, ◌*◌, ◌==◌, ◌&&◌, not, true, false, length, MatchOption};
 ghost use Rattle.std.specs.List.{list_all};
-ghost use Rattle.evm_cells.specs.Limits.{is_cell_coord};
+ghost use Rattle.evm_cells.specs.Limits.{is_cell_coord, is_point_coord};
 ghost use Rattle.evm_cells.specs.Shapes.{is_shift};
 ghost use Rattle.evm_cells.specs.Boxes as boxes;
 ghost use Rattle.evm_model.specs.Figures.{box_fits, low_of, high_of};
@@ -102,15 +102,23 @@ pub fn is_height(dim: usize, at: Num) -> bool
     -limit <= at && at < limit
 }
 
-/// Whether a prism of this dimension can run from one height up to another.
+/// Whether a number is a coordinate of points of this dimension.
 #[tactic(auto, unfolding(evm_cells::specs::Limits::is_point_coord, evm_cells::specs::Limits::limit))]
+fn is_end(dim: usize, at: Num) -> bool
+    requires low { 0 < dim }
+    requires high { dim ≤ 6 }
+    ensures { result ≡ is_point_coord dim at }
+{
+    let limit = i64::from(limit(dim));
+    let at = at.value();
+    -limit <= at && at <= limit
+}
+
+/// Whether a prism of this dimension can run from one height up to another.
 pub fn is_range(dim: usize, low: Num, high: Num) -> bool
     requires low { 0 < dim }
     requires high { dim ≤ 6 }
     ensures { result ≡ model.is_range dim low high }
 {
-    let limit = i64::from(limit(dim));
-    let low = low.value();
-    let high = high.value();
-    (-limit <= low && low <= limit) && (-limit <= high && high <= limit) && low < high
+    is_end(dim, low) && is_end(dim, high) && low.value() < high.value()
 }

@@ -5,4 +5,4 @@ use Rattle.evm_scene.proofs.Stated.{cell_point}
 use Rattle.evm_scene.proofs.operations.operation_of.Goals as goal
 
 pub height_of-requires : goal.height_of-requires
-height_of-requires c = cell_point _ c.args.dim c.in-Slice.at (subst (λ (f : Formula). FormulaStated c.args.dim f) c.in-Slice.is c.requires).1
+height_of-requires c = cell_point c.args.dim c.in-Slice.at (subst (λ (f : Formula). FormulaStated c.args.dim f) c.in-Slice.is c.requires).1
