@@ -2,6 +2,7 @@
 use Rattle.std.proofs.Common.{◌≡◌, ℕ, Bool, true, false, not, cond, ◌&&◌, List, [], ◌∷◌, Option, Some, None, ℤ, refl, sym, ap, ◌∙◌, subst, is_some, bytes_eq}
 use Rattle.std.specs.Prelude.{nat_abs}
 use Rattle.std.proofs.lemmas.Bool.{false≢true}
+use Rattle.evm_cells.proofs.Xor.{and-false}
 use Rattle.evm_cells.proofs.Order.{refuted}
 use Rattle.evm_script.specs.declared.formula.Formula.{Formula}
 use Rattle.evm_model.specs.Figures.{Figure, nothing, same_figure}
@@ -97,11 +98,7 @@ unread_other : (s : Scene) (name : List ℕ) (u : Scene) → IsWell s → IsAt s
 unread_other s name u well at free x d =
     ap (λ (a : Figure). stands u x && not (same_figure (value s x) a)) (value_stays s well name u at x d (unread_unreached s name x well free))
     ∙ ap (λ (b : Bool). stands u x && not b) (same_itself (value s x))
-    ∙ and_no (stands u x)
-  where
-    and_no : (b : Bool) → (b && false) ≡ false
-    and_no true = refl
-    and_no false = refl
+    ∙ and-false (stands u x)
 
 -- where the name does not stand before and after, no name changes
 unread_none : (s : Scene) (name : List ℕ) (u : Scene) → IsWell s → IsAt s name u → ((y : List ℕ) → is_among name (operands_of s.entries y) ≡ false)

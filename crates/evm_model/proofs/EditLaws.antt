@@ -11,7 +11,7 @@ use Rattle.evm_cells.specs.Boxes.{IsBox, is_box, box_cells}
 use Rattle.evm_cells.proofs.Booleans.{cell_sets}
 use Rattle.evm_cells.proofs.Boxes.{toggle_changes, box_test}
 use Rattle.evm_cells.proofs.Order.{refuted}
-use Rattle.evm_cells.proofs.Xor.{and_both}
+use Rattle.evm_cells.proofs.Xor.{and_both, and-false}
 use Rattle.evm_script.specs.declared.formula.Formula.{Formula}
 use Rattle.evm_model.specs.Figures.{Figure, nothing, box_of, box_at, xor_of, or_of, sub_of, box_fits, same_figure}
 use Rattle.evm_model.specs.Scene.{Scene, Entry, Given, Made, has_name, entry_of, stands, dim_of, value, value_within, entry_value, reaches, with_entry, with_figure, with_new, formula_dim, what_is_sound, all_stay, IsWell, given_entry, made_entry}
@@ -167,16 +167,12 @@ changed_reach scene edit well =
     name : List ℕ
     name = name_of edit
 
-    and_no : (b : Bool) → (b && false) ≡ false
-    and_no true = refl
-    and_no false = refl
-
     unchanged : (x : List ℕ) → (bytes_eq x name || reaches scene x name) ≡ false → (stands u x && not (same_figure (value scene x) (value u x))) ≡ false
     unchanged x t =
         let parts = or_none (bytes_eq x name) (reaches scene x name) t in
         ap (λ (a : Figure). stands u x && not (same_figure (value scene x) a)) (others_stay scene edit x well parts.0 parts.1)
         ∙ ap (λ (b : Bool). stands u x && not b) (same_itself (value scene x))
-        ∙ and_no (stands u x)
+        ∙ and-false (stands u x)
 
 -- a test of names that a name passes which stands
 found_any : (p : List ℕ → Bool) (es : List Entry) (name : List ℕ) → is_some (entry_of es name) ≡ true → p name ≡ true → list_any (λ (e : Entry). p e.name) es ≡ true

@@ -1,18 +1,15 @@
 -- Files: the figures that bytes state, and the bytes that figures are saved in.
-use Rattle.std.proofs.Common.{◌≡◌, ℕ, ◌≤◌, Bool, true, false, cond, List, Option, Some, None, Result, Ok, Err, ℤ, pos, int_le, ◌⊎◌, inl, inr, refl, sym, ap, ◌∙◌, subst, bytes_eq, arith, nat_le, nat_abs, IfOk}
+use Rattle.std.proofs.Common.{◌≡◌, ℕ, ◌≤◌, Bool, true, false, cond, List, Option, Some, None, Result, Ok, Err, ℤ, pos, ◌⊎◌, inl, inr, refl, sym, ap, ◌∙◌, subst, bytes_eq, arith, nat_le, nat_abs, IfOk}
 use Rattle.std.specs.Prelude.{◌↔◌, ◌==◌}
 use Rattle.std.proofs.lemmas.Bool.{eqb-false}
 use Rattle.std.proofs.lemmas.Bool.Decides.{Decides-eqb, nat_tests}
-use Rattle.std.proofs.lemmas.Int.{ints as int_facts}
 use Rattle.evm_cells.specs.Places.{ascending}
 use Rattle.evm_cells.specs.Limits.{IsCellSet}
 use Rattle.evm_cells.specs.Vertices.{cells}
 use Rattle.evm_cells.specs.Unions.{Ends}
 use Rattle.evm_cells.proofs.Unions.{cell_set-union}
-use Rattle.evm_cells.proofs.Coords.{le_is}
 use Rattle.evm_cells.proofs.Core.{cells-evm}
 use Rattle.evm_cells.proofs.Universe.{cell_set-cells}
-use Rattle.evm_cells.proofs.Xor.{and_first, and_second}
 use Rattle.evm_formats.specs.File.{file_of_cells, stated_rows, IsSolidCells}
 use Rattle.evm_formats.proofs.Frames.{rows_of_file}
 use Rattle.evm_formats.proofs.FileLaws.{vertices_of_cells, solid_of_cells, cell_sets}
@@ -29,7 +26,7 @@ use Rattle.evm_model.specs.Figures.{Figure, nothing}
 use Rattle.evm_model.specs.Files.{evm_figure, figure_stated, form_fits, figure_in, figure_fetched, or_nothing, bytes_in}
 use Rattle.evm_model.specs.Scene.{Scene, stands, dim_of, value, is_dim, IsWell}
 use Rattle.evm_model.proofs.Names.{by_test, same_name, equal_names}
-use Rattle.evm_model.proofs.WellScenes.{value_dim, value_cells}
+use Rattle.evm_model.proofs.WellScenes.{solid_dim, value_dim, value_cells}
 use Rattle.evm_model.proofs.WellEdits.{standing_dim}
 
 -- a figure of dimension n whose cells are a cell set
@@ -44,13 +41,6 @@ IfCells n (Some a) = HasCells n a
 nothing_set : (n : ℕ) → HasCells n (nothing n)
 unfolding nothing ascending
 nothing_set n = (refl, record { ascends = refl; cells = refl })
-
--- dimensions that solids have are 1 to 6
-pub solid_dim : (n : ℕ) → is_dim (pos n) ≡ true → (2 ≤ n) × (n ≤ 6)
-solid_dim n d =
-    let low = le_is (pos 2) (pos n) (and_first (int_le (pos 2) (pos n)) (int_le (pos n) (pos 6)) d) in
-    let high = le_is (pos n) (pos 6) (and_second (int_le (pos 2) (pos n)) (int_le (pos n) (pos 6)) d) in
-    (omega (arith, int_facts, low), omega (arith, int_facts, high))
 
 -- ---- images
 

@@ -3,14 +3,10 @@ use Rattle.std.specs.Prelude.{ℕ, ◌≡◌, ◌⊎◌, not, ◌&&◌, ◌||◌
 use Rattle.std.specs.List.{list_any, list_all, onto_first, join_with_byte, slice_split}
 use Rattle.std.proofs.Common.{true, sym, ◌∙◌, ap, subst, cond, inl, inr, ⊎_elim}
 use Rattle.std.proofs.lemmas.List.Splits.{join_with_byte-slice_split}
-use Rattle.std.proofs.lemmas.List.{append_assoc}
+use Rattle.std.proofs.lemmas.List.{append_assoc, append-nil}
 use Rattle.evm_cells.proofs.Xor.{and_first, and_second, and_both}
 use Rattle.evm_model.specs.Replies.{line_of}
 use Rattle.evm_text.specs.Lines.{is_lf, lines, lines_of_parts}
-
-append_nil : (xs : List ℕ) → xs ++ [] ≡ xs
-append_nil [] = refl
-append_nil (x ∷ xs) = ap (λ (ys : List ℕ). x ∷ ys) (append_nil xs)
 
 -- a script from its lines, to which an LF may have been added
 abbrev pub Makes : List (List ℕ) → List ℕ → Type 0
@@ -26,7 +22,7 @@ makes_more x ls rest h =
 parts_make : (parts : List (List ℕ)) → Makes (lines_of_parts parts) (join_with_byte 10 parts)
 parts_make [] = inl refl
 parts_make ([] ∷ []) = inl refl
-parts_make ((b ∷ bs) ∷ []) = inr (append_nil (line_of (b ∷ bs)))
+parts_make ((b ∷ bs) ∷ []) = inr (append-nil (line_of (b ∷ bs)))
 parts_make (x ∷ y ∷ more) = makes_more x (lines_of_parts (y ∷ more)) (join_with_byte 10 (y ∷ more)) (parts_make (y ∷ more))
 
 pub lines_make : (script : List ℕ) → Makes (lines script) script

@@ -1,11 +1,9 @@
 -- What holds where nothing refuses an edit.
-use Rattle.std.proofs.Common.{◌≡◌, ℕ, ◌+◌, ◌-◌, ◌*◌, ◌==◌, Bool, true, false, not, cond, ◌&&◌, ◌||◌, List, [], ◌∷◌, ◌++◌, length, Some, None, ℤ, pos, negsuc, int_le, refl, sym, ap, ◌∙◌, bytes_eq, arith}
+use Rattle.std.proofs.Common.{◌≡◌, ℕ, ◌+◌, ◌-◌, ◌*◌, ◌==◌, Bool, true, false, not, cond, ◌&&◌, ◌||◌, List, [], ◌∷◌, ◌++◌, length, Some, None, ℤ, pos, negsuc, refl, sym, ap, ◌∙◌, bytes_eq, arith}
 use Rattle.std.specs.Prelude.{nat_abs}
 use Rattle.std.proofs.lemmas.Bool.{false≢true, eqb-false}
-use Rattle.std.proofs.lemmas.Int.{ints as int_facts}
 use Rattle.std.proofs.lemmas.Bool.Decides.{Decides-eqb}
-use Rattle.evm_cells.proofs.Xor.{and_first, and_second, and_both}
-use Rattle.evm_cells.proofs.Coords.{le_yes, le_is}
+use Rattle.evm_cells.proofs.Xor.{and_first}
 use Rattle.evm_script.specs.declared.formula.Formula.{Formula}
 use Rattle.evm_model.specs.Formulas.{Shape, Slice, Proj, Lift, shape_dim, shape_fits, Parts, Both, Block, Shaped, parts_of, parts_operands, parts_dim, parts_fit}
 use Rattle.evm_model.specs.Figures.{Figure, box_fits, low_of, high_of}
@@ -14,6 +12,7 @@ use Rattle.evm_model.specs.Scene.{Scene, stands, dim_of, is_input, is_read, reac
 use Rattle.evm_model.specs.Edits.{Input, Replace, Def, Drop, Code, first_cause, box_causes, edit_causes, value_causes, with_box, refusal}
 use Rattle.evm_model.proofs.Names.{or_none, among_here, passes_none, not_true, not_false}
 use Rattle.evm_model.proofs.Stays.{is_before, before_both}
+use Rattle.evm_model.proofs.WellScenes.{solid_dim, dim_solid}
 use Rattle.evm_model.proofs.WellEdits.{standing_dim}
 
 -- where no cause holds, the first does not
@@ -137,18 +136,10 @@ dim_stated (negsuc d) h = absurd (false≢true h)
 
 -- one axis less, or one more
 dim_less : (d : ℕ) → is_dim (pos d) ≡ true → not (d == 2) ≡ true → is_dim (pos (d - 1)) ≡ true
-dim_less d h k =
-    let low = le_is (pos 2) (pos d) (and_first (int_le (pos 2) (pos d)) (int_le (pos d) (pos 6)) h) in
-    let high = le_is (pos d) (pos 6) (and_second (int_le (pos 2) (pos d)) (int_le (pos d) (pos 6)) h) in
-    let two = eqb-false d 2 (not_true (d == 2) k) in
-    and_both (int_le (pos 2) (pos (d - 1))) (int_le (pos (d - 1)) (pos 6)) (le_yes (pos 2) (pos (d - 1)) (omega (arith, int_facts, low, two))) (le_yes (pos (d - 1)) (pos 6) (omega (arith, int_facts, high)))
+dim_less d h k = let b = solid_dim d h in let two = eqb-false d 2 (not_true (d == 2) k) in dim_solid (d - 1) (omega (arith, b.0, two)) (omega (arith, b.1))
 
 dim_more : (d : ℕ) → is_dim (pos d) ≡ true → not (d == 6) ≡ true → is_dim (pos (d + 1)) ≡ true
-dim_more d h k =
-    let low = le_is (pos 2) (pos d) (and_first (int_le (pos 2) (pos d)) (int_le (pos d) (pos 6)) h) in
-    let high = le_is (pos d) (pos 6) (and_second (int_le (pos 2) (pos d)) (int_le (pos d) (pos 6)) h) in
-    let six = eqb-false d 6 (not_true (d == 6) k) in
-    and_both (int_le (pos 2) (pos (d + 1))) (int_le (pos (d + 1)) (pos 6)) (le_yes (pos 2) (pos (d + 1)) (omega (arith, int_facts, low))) (le_yes (pos (d + 1)) (pos 6) (omega (arith, int_facts, high, six)))
+dim_more d h k = let b = solid_dim d h in let six = eqb-false d 6 (not_true (d == 6) k) in dim_solid (d + 1) (omega (arith, b.0)) (omega (arith, b.1, six))
 
 shape_dim_fits : (shape : Shape) (d : ℕ) → is_dim (pos d) ≡ true → shape_fits shape d ≡ true → is_dim (pos (shape_dim shape d)) ≡ true
 shape_dim_fits (Slice axis at) d h fits = dim_less d h (and_first (not (d == 2)) (is_axis d axis) fits)

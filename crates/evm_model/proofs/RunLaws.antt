@@ -7,7 +7,7 @@ use Rattle.std.specs.Cmp.Lexicographic.{nat_list_cmp_total}
 use Rattle.std.specs.List.{list_any}
 use Rattle.std.proofs.lemmas.Bool.{false≢true}
 use Rattle.std.proofs.lemmas.Map.Text.{is_eq-slice_cmp}
-use Rattle.std.proofs.lemmas.List.{length-drop, drop-drop, append_assoc}
+use Rattle.std.proofs.lemmas.List.{length-drop, drop-drop, append-nil}
 use Rattle.std.proofs.Math.Seq.{take-nil}
 use Rattle.evm_outside.specs.Shelves.{Files}
 use Rattle.evm_script.specs.Line.{command}
@@ -24,7 +24,10 @@ use Rattle.evm_model.specs.Replies.{Reply, reply_text, is_no}
 use Rattle.evm_model.specs.Steps.{Turn, unless_refused, saved, turn_of, line_turn, step, of_line}
 use Rattle.evm_model.specs.Runs.{Mark, Plain, NoMemory, NoShelf, Fetched, World, with_placed, turned, fetched_from, answer, may_have, may_all_have, run, world_after, texts, some_no}
 use Rattle.evm_model.specs.Laws.{saves_to}
-use Rattle.evm_model.proofs.Names.{name_itself, or_none}
+use Rattle.std.proofs.lemmas.List.Folds.{list_any-append}
+use Rattle.std.proofs.lemmas.Grind.{flat_map-append}
+use Rattle.evm_cells.proofs.Xor.{and-true, and_assoc}
+use Rattle.evm_model.proofs.Names.{name_itself, or_none, or-false}
 use Rattle.evm_model.proofs.LoadLaws.{load_reads}
 use Rattle.evm_model.proofs.StepLaws.{mild_step, save_places, unsaved_turn, well_step}
 
@@ -58,25 +61,11 @@ world_more world (x ∷ ls) [] l rest m e =
     after_no_marks (answer world x m).world ls ∙ ap (λ (y : List ℕ). (answer world y m).world) (same_head x l ls rest e)
 world_more world (x ∷ ls) (k ∷ ms) l rest m e = world_more (answer world x k).world ls ms l rest m e
 
-append_nil : (xs : List ℕ) → xs ++ [] ≡ xs
-append_nil [] = refl
-append_nil (x ∷ xs) = ap (λ (ys : List ℕ). x ∷ ys) (append_nil xs)
-
 pub texts_more : (rs : List Reply) (r : Reply) → texts (rs ++ r ∷ []) ≡ texts rs ++ reply_text r
-texts_more [] r = append_nil (reply_text r)
-texts_more (x ∷ rs) r = ap (λ (t : List ℕ). reply_text x ++ t) (texts_more rs r) ∙ sym (append_assoc (reply_text x) (texts rs) (reply_text r))
-
-or_assoc : (a b c : Bool) → a || (b || c) ≡ (a || b) || c
-or_assoc true b c = refl
-or_assoc false b c = refl
-
-or_false : (a : Bool) → a || false ≡ a
-or_false true = refl
-or_false false = refl
+texts_more rs r = flat_map-append reply_text rs (r ∷ []) ∙ ap (λ (t : List ℕ). texts rs ++ t) (append-nil (reply_text r))
 
 pub some_no_more : (rs : List Reply) (r : Reply) → some_no (rs ++ r ∷ []) ≡ some_no rs || is_no r
-some_no_more [] r = or_false (is_no r)
-some_no_more (x ∷ rs) r = ap (λ (t : Bool). is_no x || t) (some_no_more rs r) ∙ or_assoc (is_no x) (some_no rs) (is_no r)
+some_no_more rs r = list_any-append is_no rs (r ∷ []) ∙ ap (λ (b : Bool). some_no rs || b) (or-false (is_no r))
 
 pub drop_more : {X : Type 0} (ls : List X) (n : ℕ) (l : X) (rest : List X) → drop n ls ≡ l ∷ rest → drop (n + 1) ls ≡ rest
 drop_more ls n l rest e = sym (drop-drop 1 n ls) ∙ ap (λ (t : List _). drop 1 t) e
@@ -112,14 +101,6 @@ pub run_later : (world : World) (ls more : List (List ℕ)) (ms : List Mark) →
 run_later world ls more ms h = (later_replies world ls more ms h, later_world world ls more ms h)
 
 -- one mark more that a line may have
-and_assoc : (a b c : Bool) → a && (b && c) ≡ (a && b) && c
-and_assoc true b c = refl
-and_assoc false b c = refl
-
-and_true : (a : Bool) → a && true ≡ a
-and_true true = refl
-and_true false = refl
-
 pub may_no_marks : (told : Bool) (world : World) (ls : List (List ℕ)) → may_all_have told world ls [] ≡ true
 may_no_marks told world [] = refl
 may_no_marks told world (l ∷ ls) = refl
@@ -129,11 +110,11 @@ pub may_more : (told : Bool) (world : World) (ls : List (List ℕ)) (ms : List M
 may_more told world [] ms l rest m e = absurd (nothing_left (length ms) l rest e)
 may_more told world (x ∷ ls) [] l rest m e =
     ap (λ (b : Bool). may_have told world x m && b) (may_no_marks told (answer world x m).world ls)
-    ∙ and_true (may_have told world x m)
+    ∙ and-true (may_have told world x m)
     ∙ ap (λ (y : List ℕ). may_have told world y m) (same_head x l ls rest e)
 may_more told world (x ∷ ls) (k ∷ ms) l rest m e =
     ap (λ (b : Bool). may_have told world x k && b) (may_more told (answer world x k).world ls ms l rest m e)
-    ∙ and_assoc (may_have told world x k) (may_all_have told (answer world x k).world ls ms) (may_have told (world_after (answer world x k).world ls ms) l m)
+    ∙ sym (and_assoc (may_have told world x k) (may_all_have told (answer world x k).world ls ms) (may_have told (world_after (answer world x k).world ls ms) l m))
 
 -- ---- what a line leaves of a world
 

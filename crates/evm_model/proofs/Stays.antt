@@ -3,6 +3,7 @@ use Rattle.std.proofs.Common.{◌≡◌, ℕ, zero, suc, ◌+◌, ◌≤◌, Boo
 use Rattle.std.specs.Prelude.{nat_abs}
 use Rattle.std.specs.List.{list_any}
 use Rattle.std.proofs.lemmas.Bool.{false≢true}
+use Rattle.std.proofs.lemmas.List.Sums.{length-filter, count_by-le-length}
 use Rattle.evm_cells.proofs.Xor.{and_first}
 use Rattle.evm_script.specs.declared.formula.Formula.{Formula}
 use Rattle.evm_model.specs.Figures.{Figure, nothing, box_at, xor_of, or_of, sub_of}
@@ -84,12 +85,7 @@ none_value es x q zero = ap (λ (e : Option Entry). entry_value e (λ o. nothing
 none_value es x q (suc n) = ap (λ (e : Option Entry). entry_value e (λ o. value_within n es o)) q
 
 length-kept : (p : List ℕ → Bool) (xs : List (List ℕ)) → length (filter p xs) ≤ length xs
-length-kept p [] = omega arith
-length-kept p (x ∷ xs) = by (p x) (length-kept p xs)
-  where
-    by : (b : Bool) → length (filter p xs) ≤ length xs → length (cond b (x ∷ filter p xs) (filter p xs)) ≤ length (x ∷ xs)
-    by true h = omega arith
-    by false h = omega arith
+length-kept p xs = omega (arith, length-filter p xs, count_by-le-length p xs)
 
 -- where one does not pass, fewer are kept
 length-fewer : (p : List ℕ → Bool) (name : List ℕ) (xs : List (List ℕ)) → is_among name xs ≡ true → p name ≡ false → length (filter p xs) + 1 ≤ length xs

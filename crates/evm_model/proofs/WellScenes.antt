@@ -15,7 +15,7 @@ use Rattle.evm_cells.proofs.Slices.{cell_set-slice}
 use Rattle.evm_cells.proofs.Moves.{cell_set-mirror, cell_set-swap, cell_set-shift}
 use Rattle.evm_cells.proofs.Lifts.{cell_set-lift, cell_set-proj, lifted_cell, without-with_at, coord-with_at}
 use Rattle.evm_cells.proofs.Universe.{absorb, has-cells}
-use Rattle.evm_cells.proofs.Coords.{le_is}
+use Rattle.evm_cells.proofs.Coords.{le_is, le_yes}
 use Rattle.std.proofs.lemmas.Int.{ints as int_facts}
 use Rattle.std.proofs.Common.{◌≤◌, ap₂, negsuc, int_le, int_lt, get_or}
 use Rattle.evm_cells.specs.Places.{has, without, with_at}
@@ -121,6 +121,17 @@ all_moved p f [] h = refl
 all_moved {X} {Y} p f (x ∷ xs) h =
     ap (λ (b : Bool). cond b (f x ∷ filter p (map f xs)) (filter p (map f xs))) (and_first (p (f x)) (list_all (λ y. p (f y)) xs) h)
     ∙ ap (λ (ys : List Y). f x ∷ ys) (all_moved p f xs (and_second (p (f x)) (list_all (λ y. p (f y)) xs) h))
+
+-- named solids have dimension 2 to 6
+pub solid_dim : (n : ℕ) → is_dim (pos n) ≡ true → (2 ≤ n) × (n ≤ 6)
+solid_dim n d =
+    let low = le_is (pos 2) (pos n) (and_first (int_le (pos 2) (pos n)) (int_le (pos n) (pos 6)) d) in
+    let high = le_is (pos n) (pos 6) (and_second (int_le (pos 2) (pos n)) (int_le (pos n) (pos 6)) d) in
+    (omega (arith, int_facts, low), omega (arith, int_facts, high))
+
+pub dim_solid : (n : ℕ) → 2 ≤ n → n ≤ 6 → is_dim (pos n) ≡ true
+dim_solid n low high =
+    and_both (int_le (pos 2) (pos n)) (int_le (pos n) (pos 6)) (le_yes (pos 2) (pos n) (omega (arith, int_facts))) (le_yes (pos n) (pos 6) (omega (arith, int_facts)))
 
 -- an axis, as a number
 axis_at : (n : ℕ) (axis : ℤ) → is_axis n axis ≡ true → nat_abs axis ≤ n
