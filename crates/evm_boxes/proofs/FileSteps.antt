@@ -8,10 +8,10 @@ use Rattle.evm_cells.proofs.Coords.{eq_yes}
 use Rattle.evm_rows.specs.Rows.{Vertices, cells_of}
 use Rattle.evm_text.specs.Lines.{lines, without_cr}
 use Rattle.evm_text.specs.Words.{words}
-use Rattle.evm_formats.specs.BoxFile.{head_dim, is_skipped, just_numbers, box_of, box_of_numbers, joined, boxes_of_line, boxes_of_lines, boxes_of_file, boxes_after, union_or_refusal, file_cells}
+use Rattle.evm_formats.specs.BoxFile.{Boxes, head_dim, is_skipped, just_numbers, box_of, box_of_numbers, joined, boxes_of_line, boxes_of_lines, boxes_of_file, boxes_after, union_or_refusal, file_cells}
 use Rattle.evm_formats.specs.declared.boxes.BoxFileError.{BoxFileError}
 use Rattle.evm_formats.specs.declared.boxes.BoxFileError.TheVariants.{Head, Dim, Range, NoMemory}
-use Rattle.evm_formats.proofs.BoxLines.{Boxes, boxes_of_lines-append, joined-empty}
+use Rattle.evm_formats.proofs.BoxLines.{boxes_of_lines-append, joined-empty}
 use Rattle.evm_boxes.specs.BoxRows.{ends_of}
 use Rattle.evm_boxes.specs.Reading.{Reads, Refuses, HasBoxes, Adds}
 use Rattle.evm_boxes.specs.declared.BoxRow.{BoxRow}

@@ -1,5 +1,5 @@
 -- What the contracts see of a box row.
-use Rattle.std.specs.Prelude.{◌≡◌, ℕ, ℤ, List, true, take, drop}
+use Rattle.std.specs.Prelude.{◌≡◌, ℕ, ℤ, List, Bool, true, take, drop}
 use Rattle.evm_cells.specs.Boxes.{is_box}
 use Rattle.evm_cells.specs.Unions.{Ends}
 use Rattle.evm_boxes.specs.declared.BoxRow.{BoxRow}
@@ -12,6 +12,10 @@ ends_of row = record { lo = take row.dim row.lo; hi = take row.dim row.hi }
 pub record IsBoxRow (n : ℕ) (row : BoxRow) : Type 0 where
   pub dim : row.dim ≡ n
   pub box : is_box n (ends_of row).lo (ends_of row).hi ≡ true
+
+-- the first n numbers and the others are the ends of a box of dimension n
+abbrev pub are_ends : ℕ → List ℤ → Bool
+are_ends n ns = is_box n (take n ns) (drop n ns)
 
 -- the row is a box of dimension n, from the first n numbers to the others
 pub record IsBoxOf (n : ℕ) (ns : List ℤ) (row : BoxRow) : Type 0 where

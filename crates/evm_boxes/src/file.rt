@@ -3,6 +3,7 @@
 ghost use Rattle.std.specs.Prelude.{◌≡◌, ◌+◌, ◌^◌, ◌<◌, ◌≤◌, ◌↔◌, Err, length, All, IfOk, IsErrOf};
 ghost use Rattle.evm_text.specs.Lines.{lines};
 ghost use Rattle.evm_formats.specs.BoxFile.{boxes_of_line, boxes_of_lines, boxes_of_file, file_cells};
+ghost use Rattle.evm_formats.specs.declared.boxes.BoxFileError.TheVariants.{Head, Dim, NoMemory};
 ghost use Rattle.evm_boxes.specs.BoxRows.{IsBoxRow};
 ghost use Rattle.evm_boxes.specs.Reading.{Adds, Gathers, HasBoxes, Reads};
 
@@ -33,9 +34,9 @@ pub fn read_boxes(alloc: Global, dim: usize, bytes: &[u8]) -> Result<Solid, BoxF
     ensures answer { Reads result (file_cells dim bytes.now) }
 
     // Memory is asked for a box alone, so these come whatever memory there is.
-    ensures head { IsErrOf result BoxFileError.Head ↔ (file_cells dim bytes.now ≡ Err BoxFileError.Head) }
-    ensures other_dim { IsErrOf result BoxFileError.Dim ↔ (file_cells dim bytes.now ≡ Err BoxFileError.Dim) }
-    ensures memory { IsErrOf result BoxFileError.NoMemory → HasBoxes (boxes_of_file dim) (lines bytes.now) }
+    ensures head { IsErrOf result Head ↔ (file_cells dim bytes.now ≡ Err Head) }
+    ensures other_dim { IsErrOf result Dim ↔ (file_cells dim bytes.now ≡ Err Dim) }
+    ensures memory { IsErrOf result NoMemory → HasBoxes (boxes_of_file dim) (lines bytes.now) }
 {
     match read_file(alloc, dim, bytes) {
         Ok(rows) => match join_rows(alloc, dim, rows) {
@@ -52,7 +53,7 @@ fn read_file(alloc: Global, dim: usize, bytes: &[u8]) -> Result<Vec<BoxRow>, Box
     requires high { dim ≤ 6 }
     ensures boxes { IfOk result (λ rows. All (IsBoxRow dim) rows.items) }
     ensures answer { Gathers result (boxes_of_file dim (lines bytes.now)) }
-    ensures memory { IsErrOf result BoxFileError.NoMemory → HasBoxes (boxes_of_file dim) (lines bytes.now) }
+    ensures memory { IsErrOf result NoMemory → HasBoxes (boxes_of_file dim) (lines bytes.now) }
 {
     let Some((first, rest)) = first_line(bytes) else {
         return Err(BoxFileError::Head);
@@ -71,7 +72,7 @@ fn read_lines(alloc: Global, dim: usize, text: &[u8]) -> Result<Vec<BoxRow>, Box
     requires small { length text.now + 1 < 2 ^ 64 }
     ensures boxes { IfOk result (λ rows. All (IsBoxRow dim) rows.items) }
     ensures answer { Gathers result (boxes_of_lines dim 2 (lines text.now)) }
-    ensures memory { IsErrOf result BoxFileError.NoMemory → HasBoxes (boxes_of_lines dim 2) (lines text.now) }
+    ensures memory { IsErrOf result NoMemory → HasBoxes (boxes_of_lines dim 2) (lines text.now) }
 {
     let mut rows = Vec::new(alloc);
     let mut rest = text;

@@ -1,15 +1,14 @@
 //! Reads a line of a box file, word by word.
 
-ghost use Rattle.std.specs.Prelude.{◌≡◌, ◌*◌, ◌<◌, ◌≤◌, [], ◌∷◌, Some, None, false, take, drop, length, bytes_eq, MatchOption, MatchBool, FitsSigned};
+ghost use Rattle.std.specs.Prelude.{◌≡◌, ◌*◌, ◌<◌, ◌≤◌, [], ◌∷◌, false, length, bytes_eq, MatchOption, FitsSigned};
 ghost use Rattle.std.specs.Bool.{OnTrue};
 ghost use Rattle.std.specs.Int.{w32};
 ghost use Rattle.evm_text.specs.Lines.{without_cr};
 ghost use Rattle.evm_text.specs.Words.{words};
-ghost use Rattle.evm_cells.specs.Boxes.{is_box};
 ghost use Rattle.evm_formats.specs.BoxFile as file;
 ghost use Rattle.evm_formats.specs.BoxFile.{boxes_of_line, box_of_numbers, just_numbers};
-ghost use Rattle.evm_boxes.specs.BoxRows.{IsBoxOf};
-ghost use Rattle.evm_boxes.specs.Reading.{is_side, States, StatesBox};
+ghost use Rattle.evm_boxes.specs.BoxRows.{are_ends, IsBoxOf};
+ghost use Rattle.evm_boxes.specs.Reading.{is_side, FindsNumbers, States, StatesBox};
 
 use super::{BoxFileError, BoxRow};
 use evm_rows::{DIM_MAX, limit};
@@ -96,7 +95,7 @@ fn read_box(
 
 /// Whether the words of a line are numbers, just as many as there are places in `into`, which are put there.
 fn read_numbers(line: &[u8], into: &mut [i64]) -> bool
-    ensures { let found = just_numbers (length into.old) (words line.now) in MatchBool result (found ≡ Some into.new) (found ≡ None) }
+    ensures { FindsNumbers result into.new (just_numbers (length into.old) (words line.now)) }
 {
     let mut rest = line;
     for place in into.iter_mut() {
@@ -117,7 +116,7 @@ fn row_of(dim: usize, from: &[i64]) -> Option<BoxRow>
     requires low { 0 < dim }
     requires high { dim ≤ 6 }
     requires size { length from.now ≡ 2 * dim }
-    ensures { MatchOption result (is_box dim (take dim from.now) (drop dim from.now) ≡ false) (IsBoxOf dim from.now) }
+    ensures { MatchOption result (are_ends dim from.now ≡ false) (IsBoxOf dim from.now) }
 {
     let (lows, highs) = from.split_at(dim);
     let mut row = BoxRow {

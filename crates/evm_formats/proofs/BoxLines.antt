@@ -1,16 +1,11 @@
 -- Boxes of lines, piece by piece.
-use Rattle.std.proofs.Common.{◌≡◌, ℕ, ◌+◌, ◌*◌, Bool, true, false, cond, List, [], ◌∷◌, ◌++◌, length, take, drop, Option, Some, None, Result, Ok, Err, ℤ, refl, sym, ap, ap₂, ◌∙◌, arith, append_assoc, append-nil}
+use Rattle.std.proofs.Common.{◌≡◌, ℕ, ◌+◌, ◌*◌, Bool, true, false, cond, List, [], ◌∷◌, ◌++◌, length, take, drop, Option, Some, None, Ok, Err, ℤ, refl, sym, ap, ap₂, ◌∙◌, arith, append_assoc, append-nil}
 use Rattle.evm_cells.specs.Boxes.{is_box}
 use Rattle.evm_cells.specs.Unions.{Ends}
-use Rattle.evm_formats.specs.BoxFile.{is_skipped, just_numbers, box_of_numbers, boxes_of_line, boxes_of_lines, joined}
+use Rattle.evm_formats.specs.BoxFile.{Boxes, is_skipped, just_numbers, box_of_numbers, boxes_of_line, boxes_of_lines, joined}
 use Rattle.evm_text.specs.Lines.{without_cr}
 use Rattle.evm_text.specs.Words.{words}
-use Rattle.evm_formats.specs.declared.boxes.BoxFileError.{BoxFileError}
 use Rattle.evm_formats.specs.declared.boxes.BoxFileError.TheVariants.{Range}
-
--- boxes, or a refusal
-abbrev pub Boxes : Type 0
-Boxes = Result (List Ends) BoxFileError
 
 pub joined-joined : (a b c : Boxes) → joined (joined a b) c ≡ joined a (joined b c)
 joined-joined (Err e) b c = refl
