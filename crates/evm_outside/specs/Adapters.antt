@@ -1,5 +1,5 @@
 -- What the contracts see of an adapter: the reader, the writer or the files of std in it, and its counts.
-use Rattle.std.specs.Prelude.{ℕ}
+use Rattle.std.specs.Prelude.{ℕ, ◌≡◌, List, Vec, Option, Result, IfOk, IfSome}
 use Rattle.evm_outside.specs.declared.adapters.StdSource.{StdSource}
 use Rattle.evm_outside.specs.declared.adapters.StdSink.{StdSink}
 use Rattle.evm_outside.specs.declared.folder.FolderShelf.{FolderShelf}
@@ -31,3 +31,7 @@ folder_faults shelf = shelf.faults
 -- how many fetches found no file
 abbrev pub folder_misses : {R : Type 0} → FolderShelf R → ℕ
 folder_misses shelf = shelf.misses
+
+-- where a file was opened and tells its bytes, they are what is answered, if any are
+abbrev pub GivesWhole : {F A E D : Type 0} → (F → Option (List ℕ)) → Result F E → Result (Vec ℕ A) D → Type 0
+GivesWhole remaining opened result = IfOk opened (λ file. IfSome (remaining file) (λ all. IfOk result (λ bytes. bytes.items ≡ all)))

@@ -1,10 +1,22 @@
 -- Counts of faults, and what a call says of them.
-use Rattle.std.specs.Prelude.{ℕ, ◌≡◌, ◌+◌, ◌-◌, ◌^◌, ◌<◌, ◌≤◌, min, OnOk, OnErr, Result, Ok, Err, IfOk, List, length, take, Option}
+use Rattle.std.specs.Prelude.{ℕ, ◌≡◌, ◌+◌, ◌-◌, ◌^◌, ◌<◌, ◌≤◌, ◌⊎◌, min, OnOk, OnErr, Result, Ok, Err, IfOk, List, length, take, Option}
 use Rattle.std.specs.Io.KnownBytes.{Appends}
 
--- a count rose, or stands at the last value of a 64-bit counter
+-- the last value of a 64-bit counter
+abbrev pub counter_last : ℕ
+counter_last = 2 ^ 64 - 1
+
+-- a count rose, or stands at just the last value of a 64-bit counter, which has no greater
 abbrev pub Rose : ℕ → ℕ → Type 0
-Rose before now = min (before + 1) (2 ^ 64 - 1) ≤ now
+Rose before now = (min (before + 1) counter_last ≤ now) × (now ≤ counter_last)
+
+-- a count rose and did not fall
+abbrev pub Climbed : ℕ → ℕ → Type 0
+Climbed before now = (before ≤ now) × Rose before now
+
+-- a count over a call that ran out of memory: it stays, or it rose too
+abbrev pub MayClimb : ℕ → ℕ → Type 0
+MayClimb before now = (now ≡ before) ⊎ Climbed before now
 
 -- what a call does to a count of faults: it never falls, it rose where the call failed, and else it stays
 pub record HasCause {T E : Type 0} (before now : ℕ) (result : Result T E) : Type 0 where

@@ -1,10 +1,10 @@
 -- Files by name, and what a fetch and a place do to them and to the counts of faults and of misses.
-use Rattle.std.specs.Prelude.{ℕ, ◌≡◌, ◌≤◌, Bool, ◌&&◌, ◌||◌, nat_eq, nat_le, List, length, slice_index, Option, None, Some, Result, Ok, Err}
+use Rattle.std.specs.Prelude.{ℕ, ◌≡◌, Bool, ◌&&◌, ◌||◌, nat_eq, nat_le, List, length, slice_index, Option, None, Some, Result, Ok, Err}
 use Rattle.std.specs.List.{list_all}
 use Rattle.std.specs.Ordering.{nat_cmp}
 use Rattle.std.specs.Cmp.Lexicographic.{slice_cmp}
 use Rattle.std.specs.FinMap as map
-use Rattle.evm_outside.specs.Causes.{Rose}
+use Rattle.evm_outside.specs.Causes.{Climbed, MayClimb}
 use Rattle.evm_outside.specs.declared.shelf.FetchError.{FetchError}
 use Rattle.evm_outside.specs.declared.shelf.FetchError.TheVariants as fetching
 use Rattle.evm_outside.specs.declared.shelf.PlaceError.{PlaceError}
@@ -52,26 +52,22 @@ PlacesFile None after name bytes = after ≡ None
 PlacesFile (Some files) None name bytes = ⊥
 PlacesFile (Some files) (Some after) name bytes = after ≡ map.insert files name bytes
 
--- a count rose and did not fall
-abbrev pub Climbed : ℕ → ℕ → Type 0
-Climbed before now = (before ≤ now) × Rose before now
-
 -- the count of faults over a fetch: it rose where the shelf failed, and stays where a file was found or missing
 abbrev pub FetchFaults : {T : Type 0} → Result T FetchError → ℕ → ℕ → Type 0
 FetchFaults (Ok found) before now = now ≡ before
 FetchFaults (Err fetching.Missing) before now = now ≡ before
 FetchFaults (Err fetching.Failed) before now = Climbed before now
-FetchFaults (Err fetching.NoMemory) before now = before ≤ now
+FetchFaults (Err fetching.NoMemory) before now = MayClimb before now
 
 -- the count of misses over a fetch: it rose where no file was found, and stays where one was found or the shelf failed
 abbrev pub FetchMisses : {T : Type 0} → Result T FetchError → ℕ → ℕ → Type 0
 FetchMisses (Ok found) before now = now ≡ before
 FetchMisses (Err fetching.Missing) before now = Climbed before now
 FetchMisses (Err fetching.Failed) before now = now ≡ before
-FetchMisses (Err fetching.NoMemory) before now = before ≤ now
+FetchMisses (Err fetching.NoMemory) before now = MayClimb before now
 
 -- the count of faults over a place: it rose where the shelf failed, and stays where the file was placed
 abbrev pub PlaceFaults : {T : Type 0} → Result T PlaceError → ℕ → ℕ → Type 0
 PlaceFaults (Ok placed) before now = now ≡ before
 PlaceFaults (Err placing.Failed) before now = Climbed before now
-PlaceFaults (Err placing.NoMemory) before now = before ≤ now
+PlaceFaults (Err placing.NoMemory) before now = MayClimb before now
