@@ -1,5 +1,5 @@
 -- Counts of faults, and what a call says of them.
-use Rattle.std.specs.Prelude.{ℕ, ◌≡◌, ◌+◌, ◌-◌, ◌^◌, ◌<◌, ◌≤◌, ◌⊎◌, min, OnOk, OnErr, Result, Ok, Err, IfOk, List, length, take, Option}
+use Rattle.std.specs.Prelude.{ℕ, ◌≡◌, ◌+◌, ◌-◌, ◌^◌, ◌<◌, ◌≤◌, min, max, OnOk, OnErr, Result, Ok, Err, IfOk, List, length, take, Option}
 use Rattle.std.specs.Io.KnownBytes.{Appends}
 
 -- the last value of a 64-bit counter
@@ -14,9 +14,9 @@ Rose before now = (min (before + 1) counter_last ≤ now) × (now ≤ counter_la
 abbrev pub Climbed : ℕ → ℕ → Type 0
 Climbed before now = (before ≤ now) × Rose before now
 
--- a count over a call that ran out of memory: it stays, or it rose too
+-- a count stays, or rose as far as a 64-bit counter goes
 abbrev pub MayClimb : ℕ → ℕ → Type 0
-MayClimb before now = (now ≡ before) ⊎ Climbed before now
+MayClimb before now = (before ≤ now) × (now ≤ max before counter_last)
 
 -- what a call does to a count of faults: it never falls, it rose where the call failed, and else it stays
 pub record HasCause {T E : Type 0} (before now : ℕ) (result : Result T E) : Type 0 where

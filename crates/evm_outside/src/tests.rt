@@ -1,11 +1,13 @@
 //! Each fake and each adapter where all goes well, and at a call that fails.
 
+mod folder;
+
 use super::{
-    Failed, FetchError, FolderShelf, MemShelf, MemSink, MemSource, PlaceError, Shelf, Sink, Source,
-    StdSink, StdSource, is_file_name,
+    Failed, FetchError, MemShelf, MemSink, MemSource, PlaceError, Shelf, Sink, Source, StdSink,
+    StdSource, is_file_name,
 };
+use std::io;
 use std::test::Fail;
-use std::{fs, io};
 
 #[test]
 fn a_source_in_memory_gives_pieces_and_fails_at_its_number(rt: HostRuntime) -> Result<(), Fail> {
@@ -101,32 +103,6 @@ fn a_shelf_in_memory_keeps_files_and_fails_at_its_number(rt: HostRuntime) -> Res
     );
     assert_eq!(rt; shelf.get(b"_b-1"), Some(b"".as_slice()));
     assert_eq!(rt; shelf.get(b"c"), None);
-    Ok(())
-}
-
-#[test]
-fn a_folder_is_a_shelf(rt: HostRuntime) -> Result<(), Fail> {
-    let alloc = rt.alloc();
-    let mut shelf = FolderShelf::new(&rt);
-    assert_eq!(rt;
-        shelf.fetch(alloc, b"a_folder_is_a_shelf.none").err(),
-        Some(FetchError::Missing)
-    );
-    assert_eq!(rt;
-        shelf.place(alloc, b"a_folder_is_a_shelf.file", b"first one"),
-        Ok(())
-    );
-    assert_eq!(rt;
-        shelf.place(alloc, b"a_folder_is_a_shelf.file", b"second"),
-        Ok(())
-    );
-    let bytes = shelf.fetch(alloc, b"a_folder_is_a_shelf.file");
-    fs::remove_file(&rt, "a_folder_is_a_shelf.file")?;
-    assert_eq!(rt; bytes?.as_slice(), b"second".as_slice());
-    fs::create_dir(&rt, "a_folder_is_a_shelf.sub")?;
-    let bytes = shelf.fetch(alloc, b"a_folder_is_a_shelf.sub");
-    fs::remove_dir(&rt, "a_folder_is_a_shelf.sub")?;
-    assert_eq!(rt; bytes.err(), Some(FetchError::Failed));
     Ok(())
 }
 
