@@ -2,7 +2,8 @@
 use Rattle.std.proofs.Common.{◌≡◌, ℕ, Bool, true, false, not, List, ◌++◌, Option, Some, None, is_some, refl, sym, ap, ◌∙◌, subst}
 use Rattle.std.proofs.lemmas.Bool.{false≢true}
 use Rattle.std.specs.FinMap as finite
-use Rattle.evm_outside.specs.Shelves.{Files, KeepsFiles, Climbed}
+use Rattle.evm_outside.specs.Causes.{Climbed}
+use Rattle.evm_outside.specs.Shelves.{Files, KeepsFiles}
 use Rattle.evm_model.specs.Scene.{Scene}
 use Rattle.evm_model.specs.Edits.{Code}
 use Rattle.evm_model.specs.Replies.{Reply, No, reply_text, is_no}

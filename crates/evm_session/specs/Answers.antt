@@ -1,8 +1,9 @@
 -- What answering a line leaves, over a shelf that tells its files or not.
-use Rattle.std.specs.Prelude.{ℕ, ◌≡◌, ◌≤◌, Bool, true, not, List, ◌++◌, Option, None, Some, is_some, Result, Ok, Err}
+use Rattle.std.specs.Prelude.{ℕ, ◌≡◌, Bool, true, not, List, ◌++◌, Option, None, Some, is_some, Result, Ok, Err}
 use Rattle.std.specs.FinMap as finite
 use Rattle.evm_rows.specs.declared.solid.NoMemory.{NoMemory}
-use Rattle.evm_outside.specs.Shelves.{Files, KeepsFiles, Climbed}
+use Rattle.evm_outside.specs.Causes.{Climbed, MayClimb}
+use Rattle.evm_outside.specs.Shelves.{Files, KeepsFiles}
 use Rattle.evm_model.specs.Scene.{Scene}
 use Rattle.evm_model.specs.Edits.{Missing}
 use Rattle.evm_model.specs.Replies.{Reply, No, reply_text, is_no}
@@ -61,8 +62,8 @@ pub record IsAsBefore (old new : Scene) (before now : List ℕ) (shelf_old shelf
   pub text : now ≡ before
   pub scene : new ≡ old
   pub files : KeepsFiles shelf_old.files shelf_new.files
-  pub faults : shelf_old.faults ≤ shelf_new.faults
-  pub misses : shelf_old.misses ≤ shelf_new.misses
+  pub faults : MayClimb shelf_old.faults shelf_new.faults
+  pub misses : MayClimb shelf_old.misses shelf_new.misses
 
 -- a line is answered, or memory was missing
 abbrev pub Answers : Result Bool NoMemory → List ℕ → Scene → Scene → List ℕ → List ℕ → ShelfView → ShelfView → Type 0

@@ -1,6 +1,7 @@
 -- What carrying out a command leaves over a shelf of files.
-use Rattle.std.specs.Prelude.{ℕ, ◌≡◌, ◌≤◌, Bool, true, false, List, ◌++◌, Option, None, Some, is_some, Result, Ok, Err}
-use Rattle.evm_outside.specs.Shelves.{Files, KeepsFiles, Climbed}
+use Rattle.std.specs.Prelude.{ℕ, ◌≡◌, Bool, true, false, List, ◌++◌, Option, None, Some, is_some, Result, Ok, Err}
+use Rattle.evm_outside.specs.Causes.{Climbed, MayClimb}
+use Rattle.evm_outside.specs.Shelves.{Files, KeepsFiles}
 use Rattle.evm_script.specs.declared.command.Command.{Command}
 use Rattle.evm_script.specs.declared.command.Command.TheVariants as commands
 use Rattle.evm_model.specs.Files.{Fetches}
@@ -60,7 +61,7 @@ pub record IsDone (new : Scene) (before now : List ℕ) (shelf_old shelf_new : S
 -- the cause of a refusal, and the counts of the shelf, of which one rose where the shelf failed or had no file: the turn is
 -- refused so, the shelf was asked and failed, or memory was missing
 abbrev pub HasCause : Refusal → Scene → ShelfView → ShelfView → Request → Type 0
-HasCause NoMemory scene old new request = (old.faults ≤ new.faults) × (old.misses ≤ new.misses)
+HasCause NoMemory scene old new request = MayClimb old.faults new.faults × MayClimb old.misses new.misses
 HasCause Shelf scene old new request = (request.asks ≡ true) × Climbed old.faults new.faults × (new.misses ≡ old.misses)
 HasCause Missing scene old new request =
     IsTurnOf old.files request (stays scene (No (code_of Missing))) × (new.faults ≡ old.faults) × Climbed old.misses new.misses
