@@ -1,5 +1,5 @@
 -- How many names an edit changed, by a list of them.
-use Rattle.std.proofs.Common.{◌≡◌, ℕ, ◌+◌, Bool, true, false, not, cond, ◌&&◌, ◌||◌, List, [], ◌∷◌, length, refl, sym, ap, ◌∙◌, is_some, bytes_eq, count_by, arith}
+use Rattle.std.proofs.Common.{◌≡◌, ℕ, ◌+◌, ◌≤◌, zero-add, Bool, true, false, not, cond, ◌&&◌, ◌||◌, List, [], ◌∷◌, length, refl, sym, ap, ◌∙◌, is_some, bytes_eq, count_by, arith}
 use Rattle.std.specs.List.{list_any, list_all, IsDistinct, AllByRecursion}
 use Rattle.std.proofs.lemmas.Bool.{false≢true}
 use Rattle.std.proofs.lemmas.List.Sums.{sum_by-cons}
@@ -9,7 +9,7 @@ use Rattle.evm_model.specs.Figures.{same_figure}
 use Rattle.evm_model.specs.Orders.{is_among, Ordered}
 use Rattle.evm_model.specs.Scene.{Scene, Entry, has_name, entry_of, stands, value, names_differ}
 use Rattle.evm_model.specs.Edits.{changed_names}
-use Rattle.evm_model.proofs.Names.{by_test, by_among, same_name, name_itself, name_sym, or_left, or_right, or_none, neither, among_here, among_later, among_none, not_true}
+use Rattle.evm_model.proofs.Names.{by_test, by_or, by_among, same_name, name_itself, name_sym, or_left, or_right, or_none, neither, among_here, among_later, among_none, not_true}
 use Rattle.evm_model.proofs.Lookups.{stands_any}
 
 -- no name is twice in a list
@@ -37,34 +37,34 @@ count_never p h (x ∷ xs) = count_cons p x xs ∙ ap (λ (b : Bool). cond b 1 0
 -- a count of what passes one of two tests that exclude each other
 pub count_or : {X : Type 0} (p q : X → Bool) → ((x : X) → p x ≡ true → q x ≡ false) → (xs : List X) → count_by (λ x. p x || q x) xs ≡ count_by p xs + count_by q xs
 count_or p q h [] = refl
-count_or {X} p q h (x ∷ xs) = by (p x) (q x) refl refl (count_or p q h xs)
+count_or p q h (x ∷ xs) =
+    omega (arith, count_or p q h xs, count_cons (λ y. p y || q y) x xs, count_cons p x xs, count_cons q x xs, either_one (p x) (q x) (h x))
   where
-    by : (a b : Bool) → p x ≡ a → q x ≡ b → count_by (λ y. p y || q y) xs ≡ count_by p xs + count_by q xs → count_by (λ y. p y || q y) (x ∷ xs) ≡ count_by p (x ∷ xs) + count_by q (x ∷ xs)
-    by true true e f rest = absurd (false≢true (sym (h x e) ∙ f))
-    by true false e f rest =
-        omega (
-          arith,
-          rest,
-          count_cons (λ y. p y || q y) x xs ∙ ap (λ (b : Bool). cond b 1 0 + count_by (λ y. p y || q y) xs) (or_left (p x) (q x) e),
-          count_cons p x xs ∙ ap (λ (b : Bool). cond b 1 0 + count_by p xs) e,
-          count_cons q x xs ∙ ap (λ (b : Bool). cond b 1 0 + count_by q xs) f,
-        )
-    by false true e f rest =
-        omega (
-          arith,
-          rest,
-          count_cons (λ y. p y || q y) x xs ∙ ap (λ (b : Bool). cond b 1 0 + count_by (λ y. p y || q y) xs) (or_right (p x) (q x) f),
-          count_cons p x xs ∙ ap (λ (b : Bool). cond b 1 0 + count_by p xs) e,
-          count_cons q x xs ∙ ap (λ (b : Bool). cond b 1 0 + count_by q xs) f,
-        )
-    by false false e f rest =
-        omega (
-          arith,
-          rest,
-          count_cons (λ y. p y || q y) x xs ∙ ap (λ (b : Bool). cond b 1 0 + count_by (λ y. p y || q y) xs) (neither (p x) (q x) e f),
-          count_cons p x xs ∙ ap (λ (b : Bool). cond b 1 0 + count_by p xs) e,
-          count_cons q x xs ∙ ap (λ (b : Bool). cond b 1 0 + count_by q xs) f,
-        )
+    either_one : (a b : Bool) → (a ≡ true → b ≡ false) → cond {A = ℕ} (a || b) 1 0 ≡ cond a 1 0 + cond b 1 0
+    either_one true true h = absurd (false≢true (sym (h refl)))
+    either_one true false h = refl
+    either_one false b h = sym (zero-add (cond b 1 0))
+
+-- of what passes a test that passes no more
+pub count_fewer : {X : Type 0} (p q : X → Bool) → ((x : X) → p x ≡ true → q x ≡ true) → (xs : List X) → count_by p xs ≤ count_by q xs
+count_fewer p q h [] = omega arith
+count_fewer p q h (x ∷ xs) = omega (arith, count_fewer p q h xs, count_cons p x xs, count_cons q x xs, at_most (p x) (q x) (h x))
+  where
+    at_most : (a b : Bool) → (a ≡ true → b ≡ true) → cond {A = ℕ} a 1 0 ≤ cond b 1 0
+    at_most true true h = omega arith
+    at_most true false h = absurd (false≢true (h refl))
+    at_most false b h = omega arith
+
+-- and of what passes a test that one passes
+pub count_some : {X : Type 0} (p : X → Bool) (xs : List X) → list_any p xs ≡ true → 1 ≤ count_by p xs
+count_some p [] h = absurd (false≢true h)
+count_some p (x ∷ xs) h = omega (
+  arith,
+  count_cons p x xs,
+  by_or (p x) (list_any p xs) h
+      (λ e. let k : cond {A = ℕ} (p x) 1 0 ≡ 1 = ap (λ (b : Bool). cond b 1 0) e in let l : 1 ≤ cond {A = ℕ} (p x) 1 0 + count_by p xs = omega arith in l)
+      (λ e. let k = count_some p xs e in let l : 1 ≤ cond {A = ℕ} (p x) 1 0 + count_by p xs = omega arith in l),
+)
 
 -- tests that agree on a list
 pub count_agree : {X : Type 0} (r p q : X → Bool) → ((x : X) → r x ≡ true → p x ≡ q x) → (xs : List X) → list_all r xs ≡ true → count_by p xs ≡ count_by q xs

@@ -14,14 +14,15 @@ use Rattle.evm_cells.proofs.Order.{refuted}
 use Rattle.evm_cells.proofs.Xor.{and_both, and-false}
 use Rattle.evm_script.specs.declared.formula.Formula.{Formula}
 use Rattle.evm_model.specs.Figures.{Figure, nothing, box_of, box_at, xor_of, or_of, sub_of, box_fits, same_figure}
+use Rattle.evm_model.specs.Formulas.{Boolean, Or, Sub, Xor, boolean_of}
 use Rattle.evm_model.specs.Scene.{Scene, Entry, Given, Made, has_name, entry_of, stands, dim_of, value, value_within, entry_value, reaches, with_entry, with_figure, with_new, formula_dim, what_is_sound, all_stay, IsWell, given_entry, made_entry}
 use Rattle.evm_model.specs.Edits.{Edit, Input, Toggle, Add, Cut, Replace, Def, Drop, EditFits, name_of, refusal, with_box, after, changed, changed_names}
 use Rattle.evm_model.specs.Laws.{is_or_reaches}
 use Rattle.evm_model.proofs.Names.{by_test, not_both, same_name, or_left, or_right, or_none, among_none}
 use Rattle.evm_model.proofs.Lookups.{with_own, with_stands}
-use Rattle.evm_model.proofs.Counts.{count_cons}
+use Rattle.evm_model.proofs.Counts.{count_fewer, count_some}
 use Rattle.evm_model.proofs.FigureLaws.{same_itself, same_equal}
-use Rattle.evm_model.proofs.WellScenes.{value_dim, value_cells, sound_made}
+use Rattle.evm_model.proofs.WellScenes.{boolean_dim, boolean_set, value_dim, value_cells, sound_made}
 use Rattle.evm_model.proofs.Stays.{at_edit, value_stays}
 use Rattle.evm_model.proofs.WellEdits.{well_figure, stay_new, well_new, well_formula, well_without}
 use Rattle.evm_model.proofs.Refusals.{IsBoxFor, IsDefinition, new_input, box_for, replacement, definition, drops, dim_stated, formula_dim_fits}
@@ -31,26 +32,12 @@ pub same_both : (a b : Figure) → IsCellSet a.dim a.cells → IsCellSet b.dim b
 same_both a b s t = (same_equal a b s.ascends t.ascends, λ e. ap (λ (x : Figure). same_figure x b) e ∙ same_itself b)
 
 -- each edit that is not refused keeps a scene well
-well_toggle : (scene : Scene) (name : List ℕ) (nums : List ℤ) → IsWell scene → all_stay (with_box xor_of scene name nums) ≡ true → IsWell (with_box xor_of scene name nums)
-unfolding xor_of
-well_toggle scene name nums well stay =
+well_box : (op : Boolean) (scene : Scene) (name : List ℕ) (nums : List ℤ) → IsWell scene → all_stay (with_box (boolean_of op) scene name nums) ≡ true
+    → IsWell (with_box (boolean_of op) scene name nums)
+well_box op scene name nums well stay =
     let a = value scene name in
     let b = box_at (dim_of scene name) nums in
-    well_figure scene name (xor_of a b) well (value_dim scene well name) (cell_sets a.dim a.cells b.cells).3 stay
-
-well_add : (scene : Scene) (name : List ℕ) (nums : List ℤ) → IsWell scene → all_stay (with_box or_of scene name nums) ≡ true → IsWell (with_box or_of scene name nums)
-unfolding or_of
-well_add scene name nums well stay =
-    let a = value scene name in
-    let b = box_at (dim_of scene name) nums in
-    well_figure scene name (or_of a b) well (value_dim scene well name) (cell_sets a.dim a.cells b.cells).0 stay
-
-well_cut : (scene : Scene) (name : List ℕ) (nums : List ℤ) → IsWell scene → all_stay (with_box sub_of scene name nums) ≡ true → IsWell (with_box sub_of scene name nums)
-unfolding sub_of
-well_cut scene name nums well stay =
-    let a = value scene name in
-    let b = box_at (dim_of scene name) nums in
-    well_figure scene name (sub_of a b) well (value_dim scene well name) (cell_sets a.dim a.cells b.cells).2 stay
+    well_figure scene name (boolean_of op a b) well (value_dim scene well name ∙ sym (boolean_dim op a b)) (boolean_set op a b) stay
 
 well_input : (scene : Scene) (name : List ℕ) (dim : ℤ) → IsWell scene → refusal scene (Input name dim) ≡ None → IsWell (after scene (Input name dim))
 unfolding ascending
@@ -84,9 +71,9 @@ well_replace scene name figure well fits r = let new = replacement scene name fi
 
 pub well_edit : (scene : Scene) (edit : Edit) → IsWell scene → EditFits edit → refusal scene edit ≡ None → IsWell (after scene edit)
 well_edit scene (Input name dim) well fits r = well_input scene name dim well r
-well_edit scene (Toggle name nums) well fits r = well_toggle scene name nums well (box_for xor_of scene name nums r).stay
-well_edit scene (Add name nums) well fits r = well_add scene name nums well (box_for or_of scene name nums r).stay
-well_edit scene (Cut name nums) well fits r = well_cut scene name nums well (box_for sub_of scene name nums r).stay
+well_edit scene (Toggle name nums) well fits r = well_box Xor scene name nums well (box_for xor_of scene name nums r).stay
+well_edit scene (Add name nums) well fits r = well_box Or scene name nums well (box_for or_of scene name nums r).stay
+well_edit scene (Cut name nums) well fits r = well_box Sub scene name nums well (box_for sub_of scene name nums r).stay
 well_edit scene (Replace name figure) well fits r = well_replace scene name figure well fits r
 well_edit scene (Def name formula) well fits r = well_def scene name formula well r
 well_edit scene (Drop name) well fits r = let d = drops scene name r in well_without scene name well d.standing d.unread
@@ -129,29 +116,6 @@ boxes_combine scene name nums s = (value_own scene name _ s, value_own scene nam
 -- another figure for an input is the value of its name
 pub replaced : (scene : Scene) (name : List ℕ) (figure : Figure) → stands scene name ≡ true → value (after scene (Replace name figure)) name ≡ figure
 replaced scene name figure s = value_own scene name figure s
-
--- how many pass a test that passes no more
-count_fewer : {X : Type 0} (p q : X → Bool) → ((x : X) → p x ≡ true → q x ≡ true) → (xs : List X) → count_by p xs ≤ count_by q xs
-count_fewer p q h [] = omega arith
-count_fewer {X} p q h (x ∷ xs) = by (p x) (q x) refl refl (count_fewer p q h xs)
-  where
-    by : (a b : Bool) → p x ≡ a → q x ≡ b → count_by p xs ≤ count_by q xs → count_by p (x ∷ xs) ≤ count_by q (x ∷ xs)
-    by a true e f rest = omega (arith, count_cons p x xs, count_cons q x xs ∙ ap (λ (t : Bool). cond t 1 0 + count_by q xs) f, at_most (p x))
-      where
-        at_most : (t : Bool) → cond {A = ℕ} t 1 0 ≤ 1
-        at_most true = omega arith
-        at_most false = omega arith
-    by true false e f rest = absurd (false≢true (sym f ∙ h x e))
-    by false false e f rest = omega (arith, rest, count_cons p x xs ∙ ap (λ (t : Bool). cond t 1 0 + count_by p xs) e, count_cons q x xs ∙ ap (λ (t : Bool). cond t 1 0 + count_by q xs) f)
-
--- some pass a test that one passes
-count_some : {X : Type 0} (p : X → Bool) (xs : List X) → list_any p xs ≡ true → 1 ≤ count_by p xs
-count_some p [] h = absurd (false≢true h)
-count_some p (x ∷ xs) h = by (p x) refl (λ k. count_some p xs k)
-  where
-    by : (b : Bool) → p x ≡ b → (list_any p xs ≡ true → 1 ≤ count_by p xs) → 1 ≤ count_by p (x ∷ xs)
-    by true e rest = omega (arith, count_cons p x xs ∙ ap (λ (t : Bool). cond t 1 0 + count_by p xs) e)
-    by false e rest = omega (arith, count_cons p x xs, rest (sym (ap (λ (t : Bool). t || list_any p xs) e) ∙ h))
 
 -- an edit changes no more than its name and those that reach it
 pub changed_reach : (scene : Scene) (edit : Edit) → IsWell scene

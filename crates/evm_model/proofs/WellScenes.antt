@@ -139,7 +139,7 @@ axis_at n (pos a) h = let l = le_is (pos a) (pos n) (and_second (int_le (pos 1) 
 axis_at n (negsuc a) h = absurd (false≢true h)
 
 -- Booleans have the dimension of their first figure, and shapes that of theirs
-boolean_dim : (op : Boolean) (a b : Figure) → (boolean_of op a b).dim ≡ a.dim
+pub boolean_dim : (op : Boolean) (a b : Figure) → (boolean_of op a b).dim ≡ a.dim
 unfolding or_of and_of sub_of xor_of
 boolean_dim Or a b = refl
 boolean_dim And a b = refl
@@ -157,7 +157,7 @@ shape_dim_of (Proj axis) a = refl
 shape_dim_of (Lift axis lo hi) a = refl
 
 -- both are cell sets
-boolean_set : (op : Boolean) (a b : Figure) → IsCellSet (boolean_of op a b).dim (boolean_of op a b).cells
+pub boolean_set : (op : Boolean) (a b : Figure) → IsCellSet (boolean_of op a b).dim (boolean_of op a b).cells
 unfolding or_of and_of sub_of xor_of
 boolean_set Or a b = (cell_sets a.dim a.cells b.cells).0
 boolean_set And a b = (cell_sets a.dim a.cells b.cells).1
