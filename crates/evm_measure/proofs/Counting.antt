@@ -1,5 +1,5 @@
 -- What a walk along a line and its change counts
-use Rattle.std.proofs.Common.{◌≡◌, ℕ, suc, ◌+◌, ◌*◌, ◌≤◌, Bool, true, false, ◌&&◌, Option, Some, None, List, [], ◌∷◌, length, sum_by, ℤ, pos, ◌-ℤ◌, ◌+ℤ◌, ◌<ℤ◌, ◌≤ℤ◌, refl, sym, ap, ap₂, ◌∙◌, subst, arith, int_lt, int_le, neg_ℤ, zero-add, ⊎_elim}
+use Rattle.std.proofs.Common.{◌≡◌, ℕ, suc, ◌+◌, ◌*◌, ◌^◌, ◌≤◌, Bool, true, false, ◌&&◌, Option, Some, None, List, [], ◌∷◌, length, sum_by, ℤ, pos, ◌-ℤ◌, ◌+ℤ◌, ◌<ℤ◌, ◌≤ℤ◌, refl, sym, ap, ap₂, ◌∙◌, subst, arith, int_lt, int_le, neg_ℤ, zero-add, ⊎_elim}
 use Rattle.std.specs.Prelude.{unsigned_abs, unwrap_or, if◌then◌else◌}
 use Rattle.std.specs.Ordering.{int_eq}
 use Rattle.std.specs.List.{list_all}
@@ -20,7 +20,8 @@ use Rattle.evm_sections.proofs.Sections.{bottom, bottom_is}
 use Rattle.evm_boolean.specs.Lines.{firsts, ones, head_of, past, least, Course, passed}
 use Rattle.evm_boolean.proofs.Lines.{par, par-nil, par-above, par-cells, ones-firsts, rows_of-ones, all_lt, rest_rises, Ahead, line_stays, line_passes, from_first, head_above}
 use Rattle.evm_boolean.proofs.LineSteps.{firsts-numbers}
-use Rattle.evm_measure.proofs.Sums.{length-ints, wide}
+use Rattle.evm_cells.proofs.Bounds.{length-ints}
+use Rattle.evm_cells.proofs.Coords.{limit-small}
 use Rattle.evm_measure.proofs.Lengths.{bit, filled, all_filled, room, room_is, stretch, from_low, none_from, line_content, length_after}
 
 -- low is the place that the program keeps; across and shared are the filled places of the change, and of both, that were passed
@@ -209,18 +210,19 @@ filled-small G (x ∷ xs) =
     one true = omega arith
     one false = omega arith
 
-all-small : (G : ℤ → Bool) → all_filled G ≤ 1048576
+all-small : (G : ℤ → Bool) → all_filled G ≤ 2 ^ 31
 unfolding cell_coords
 all-small G =
     let a : all_filled G ≤ length (cell_coords 1) = filled-small G (cell_coords 1) in
-    let b : length (cell_coords 1) ≡ 1048576 = length-ints (neg_ℤ (pos (limit 1))) (2 * limit 1) ∙ wide 1 in
-    omega (arith, a, b)
+    let b : length (cell_coords 1) ≡ 2 * limit 1 = length-ints (neg_ℤ (pos (limit 1))) (2 * limit 1) in
+    let m = limit-small 1 in
+    omega (arith, a, b, m)
 
 -- a line is no longer than all places
-pub line-small : (V : List (List ℤ)) → IsVertexList 1 V → length (cells 1 V) ≤ 1048576
+pub line-small : (V : List (List ℤ)) → IsVertexList 1 V → length (cells 1 V) ≤ 2 ^ 31
 line-small V v = let a = line_content V v in let b = all-small (par (firsts V)) in omega (arith, a, b)
 
-pub counting_small : (A C : List ℤ) (low : ℤ) (a c : Course) (across shared : ℕ) → Counting A C low a c across shared → (across ≤ 1048576) × (shared ≤ 1048576)
+pub counting_small : (A C : List ℤ) (low : ℤ) (a c : Course) (across shared : ℕ) → Counting A C low a c across shared → (across ≤ 2 ^ 31) × (shared ≤ 2 ^ 31)
 counting_small A C low a c across shared s =
     let x = s.crossed in
     let y = s.met in
@@ -240,7 +242,7 @@ rows-many w = ap length (rows_of-ones w) ∙ by w
 pub step_small : (A C : List ℤ) (low n at : ℤ) (a c : Course) (across shared p q : ℕ)
     → Some n ≡ head_of c.left → at ≡ least n (head_of a.left)
     → p ≡ (if c.on then unsigned_abs (at -ℤ low) else 0) → q ≡ (if (a.on && c.on) then unsigned_abs (at -ℤ low) else 0)
-    → Counting A C low a c across shared → (across + p ≤ 1048576) × (shared + q ≤ 1048576)
+    → Counting A C low a c across shared → (across + p ≤ 2 ^ 31) × (shared + q ≤ 2 ^ 31)
 step_small A C low n at a c across shared p q first pick ep eq s =
     counting_small A C at (passed at a) (passed at c) (across + p) (shared + q)
     (counting_more A C low n at a c (passed at a) (passed at c) across shared p q first pick refl refl ep eq s)

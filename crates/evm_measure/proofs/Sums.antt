@@ -1,20 +1,18 @@
 -- The content and the boundary content by slabs and couplets, and their bounds by the limits
-use Rattle.std.proofs.Common.{◌≡◌, ℕ, zero, suc, ◌+◌, ◌*◌, ◌-◌, ◌^◌, ◌<◌, ◌≤◌, Bool, true, false, cond, not, count_by, ◌++◌, rules, List, [], ◌∷◌, length, map, filter, sum_by, ℤ, pos, negsuc, neg_ℤ, ◌-ℤ◌, ◌+ℤ◌, ◌<ℤ◌, ◌≤ℤ◌, refl, sym, ap, ap₂, ◌∙◌, arith, int_lt, zero-add, suc-add, add-one, mul-suc, suc-mul, mul-zero, add_comm}
+use Rattle.std.proofs.Common.{◌≡◌, ℕ, zero, suc, ◌+◌, ◌*◌, ◌-◌, ◌^◌, ◌<◌, ◌≤◌, true, cond, not, ◌++◌, List, [], ◌∷◌, length, map, filter, sum_by, ℤ, pos, negsuc, neg_ℤ, ◌-ℤ◌, ◌+ℤ◌, ◌<ℤ◌, ◌≤ℤ◌, refl, sym, ap, ap₂, ◌∙◌, arith, int_lt, zero-add, suc-add, add-one, mul-suc, mul-zero, add_comm}
 use Rattle.std.specs.Prelude.{unsigned_abs}
-use Rattle.std.specs.List.{list_all, range_with_len}
-use Rattle.std.proofs.Math.Nat.{pow-le-pow_right, pow-zero, pow-succ', mul-le-mul_right}
+use Rattle.std.specs.List.{list_all}
 use Rattle.std.proofs.lemmas.Int.{ints as int_facts}
-use Rattle.std.proofs.lemmas.List.{length-map}
-use Rattle.std.proofs.lemmas.List.Concat.{length-flat_map}
-use Rattle.std.proofs.lemmas.List.Sums.{sum_by-cons, length-filter}
-use Rattle.evm_cells.specs.Places.{has, is_empty}
-use Rattle.evm_cells.specs.Measures.{content, boundary, open_faces, moved}
-use Rattle.evm_cells.specs.Limits.{limit, ints, tuples, cell_coords, point_coords, every_cell, is_point_coord, IsCellSet}
+use Rattle.std.proofs.lemmas.List.Sums.{sum_by-cons}
+use Rattle.evm_cells.specs.Places.{is_empty}
+use Rattle.evm_cells.specs.Measures.{content, boundary}
+use Rattle.evm_cells.specs.Limits.{limit, ints, cell_coords, point_coords, is_point_coord, IsCellSet}
 use Rattle.evm_cells.specs.Vertices.{evm, cells, IsVertexList}
 use Rattle.evm_cells.specs.Sections.{slice, couplet, cuts}
 use Rattle.evm_cells.proofs.Xor.{and_first, and_second, and_both}
 use Rattle.evm_cells.proofs.Coords.{lt_is, lt_yes, point_is}
 use Rattle.evm_cells.proofs.Universe.{cell_set-cells}
+use Rattle.evm_cells.proofs.Bounds.{content-fits as cells_fit, boundary-fits as faces_fit, boundary_bound}
 use Rattle.evm_cells.proofs.Core.{cells-evm}
 use Rattle.evm_cells.proofs.Slices.{cell_set-slice, cell_set-couplet}
 use Rattle.evm_cells.proofs.Layers.{cells-empty, content_by_sections, slice_outside}
@@ -54,85 +52,18 @@ sum_run g a (suc d) m v e =
     ∙ ap (λ z. v + (v * d + sum_by g (ints z m))) (let q : a +ℤ pos 1 +ℤ pos d ≡ a +ℤ pos (suc d) = omega (arith, int_facts) in q)
     ∙ omega (arith, mul-suc v d)
 
--- ---- the bound
+-- ---- the bounds
 
-pub length-ints : (a : ℤ) (m : ℕ) → length (ints a m) ≡ m
-unfolding ints
-length-ints a zero = refl
-length-ints a (suc m) = ap suc (length-ints (a +ℤ pos 1) m)
-
-sum-const : {X : Type 0} (v : ℕ) (xs : List X) → sum_by (λ (x : X). v) xs ≡ length xs * v
-sum-const v [] = omega arith
-sum-const v (x ∷ xs) = let a = sum_by-cons (λ y. v) x xs in let b = sum-const v xs in a ∙ ap (λ n. v + n) b ∙ omega arith
-
-length-tuples : (xs : List ℤ) (n : ℕ) → length (tuples xs n) ≡ length xs ^ n
-unfolding tuples
-length-tuples xs zero = sym (pow-zero (length xs))
-length-tuples xs (suc n) =
-    length-flat_map (λ x. map (λ t. x ∷ t) (tuples xs n)) xs
-    ∙ ap (λ f. sum_by f xs) (λ i x. length-map (tuples xs n) (λ (t : List ℤ). x ∷ t) i)
-    ∙ sum-const (length (tuples xs n)) xs
-    ∙ ap (λ k. length xs * k) (length-tuples xs n)
-    ∙ more (length xs) n
-  where
-    more : (b n : ℕ) → b * b ^ n ≡ b ^ suc n
-    more b n = sym (pow-succ' b n)
-
-filter-shorter : {X : Type 0} (t : X → Bool) (xs : List X) → length (filter t xs) ≤ length xs
-filter-shorter t [] = omega arith
-filter-shorter t (x ∷ xs) = at (t x) (filter-shorter t xs)
-  where
-    at : (b : Bool) → length (filter t xs) ≤ length xs → length (cond b (x ∷ filter t xs) (filter t xs)) ≤ suc (length xs)
-    at true h = omega arith
-    at false h = omega arith
-
-pub wide : (n : ℕ) → 2 * limit n ≡ 1048576
-unfolding limit
-wide n = refl
-
+-- in each dimension the content is at most 2 ^ 120
 pub content-fits : (n : ℕ) (V : List (List ℤ)) → n ≤ 6 → length (cells n V) ≤ 2 ^ 120
-unfolding cells every_cell cell_coords
-content-fits n V l =
-    let a : length (cells n V) ≤ length (every_cell n) = filter-shorter _ (every_cell n) in
-    let b : length (every_cell n) ≡ length (cell_coords n) ^ n = length-tuples (cell_coords n) n in
-    let c : length (cell_coords n) ≡ 1048576 = length-ints (neg_ℤ (pos (limit n))) (2 * limit n) ∙ wide n in
-    let d : length (every_cell n) ≡ 1048576 ^ n = b ∙ ap (λ k. k ^ n) c in
-    let e : 1048576 ^ n ≤ 1048576 ^ 6 = pow-le-pow_right (omega arith) l in
-    let f : 1048576 ^ 6 ≡ 2 ^ 120 = refl in
-    omega (arith, a, d, e, f)
+content-fits n V l = cells_fit n (cells n V) l (cell_set-cells n V)
 
--- ---- the bound of the boundary content
-
-count-fits : {X : Type 0} (t : X → Bool) (xs : List X) → count_by t xs ≤ length xs
-count-fits t xs = let a = filter-shorter t xs in let b = length-filter t xs in omega arith
-
-sum-fits : {X : Type 0} (f : X → ℕ) (top : ℕ) → ((x : X) → f x ≤ top) → (xs : List X) → sum_by f xs ≤ length xs * top
-sum-fits f top below [] = omega arith
-sum-fits f top below (x ∷ xs) = let a = sum_by-cons f x xs in let b = sum-fits f top below xs in let c = below x in omega (arith, suc-mul (length xs) top)
-
-length-range : (a n : ℕ) → length (range_with_len a n) ≡ n
-length-range a zero = refl
-length-range a (suc n) = ap suc (length-range (a + 1) n)
-
-pub boundary-small : (n : ℕ) (S : List (List ℤ)) → boundary n S ≤ n * (length S + length S)
-unfolding boundary open_faces
-boundary-small n S =
-    let a : boundary n S ≤ length (range_with_len 0 n) * (length S + length S) =
-    sum-fits (λ i. open_faces i (pos 1) S + open_faces i (negsuc 0) S) (length S + length S)
-    (λ i. let u = count-fits (λ c. not (has S (moved i (pos 1) c))) S in let v = count-fits (λ c. not (has S (moved i (negsuc 0) c))) S in omega arith) (range_with_len 0 n) in
-    rw (length-range 0 n) at a
-
-pub boundary-empty : (n : ℕ) → boundary n [] ≡ 0
-boundary-empty n = let a : boundary n [] ≤ n * 0 = boundary-small n [] in omega (arith, a, mul-zero n)
-
--- in each dimension the boundary content is below 2 ^ 124
+-- and the boundary content is below 2 ^ 124
 pub boundary-fits : (n : ℕ) (V : List (List ℤ)) → n ≤ 6 → boundary n (cells n V) < 2 ^ 124
-boundary-fits n V l =
-    let a = boundary-small n (cells n V) in
-    let b = content-fits n V l in
-    let d : n * (length (cells n V) + length (cells n V)) ≤ 6 * (length (cells n V) + length (cells n V)) = mul-le-mul_right (length (cells n V) + length (cells n V)) l in
-    let e : 6 * (2 ^ 120 + 2 ^ 120) < 2 ^ 124 = search rules in
-    omega (arith, a, b, d, e)
+boundary-fits n V l = faces_fit n (cells n V) l (cell_set-cells n V)
+
+boundary-empty : (n : ℕ) → boundary n [] ≡ 0
+boundary-empty n = let a : boundary n [] ≤ 2 * n * 0 = boundary_bound n [] in omega (arith, a, mul-zero (2 * n))
 
 -- ---- the slabs
 
@@ -242,7 +173,7 @@ boundary_is_at m n V l left e v a =
 no_slabs : (l : ℤ) (s : List (List ℤ)) (cs : List (ℤ × List (List ℤ))) → slab_sum (boundary 0) 0 l s cs ≡ 0
 no_slabs l s [] = refl
 no_slabs l s ((h, c) ∷ cs) =
-    let z : boundary 0 (cells 0 s) ≤ 0 * (length (cells 0 s) + length (cells 0 s)) = boundary-small 0 (cells 0 s) in
+    let z : boundary 0 (cells 0 s) ≤ 2 * 0 * length (cells 0 s) = boundary_bound 0 (cells 0 s) in
     let y : boundary 0 (cells 0 s) ≡ 0 = omega (arith, z) in
     ap₂ (λ x r. x * unsigned_abs (h -ℤ l) + r) y (no_slabs h (xor_rows 0 s c) cs) ∙ omega arith
 
