@@ -32,11 +32,8 @@ and-requires c =
     let d : (vertices_of c.rows.result).dim ≡ n = ap (λ (p : Vertices). p.dim) c.rows.ensures ∙ c.in-Ok.ensures.dim ∙ l.0 in
     sym d
 
-pub returns-clause-dim : goal.returns-clause-dim
-returns-clause-dim c = and_dim (vertices_of c.args.a) (vertices_of c.rows.result) c.in_ok-solid.solid c.in_ok-solid.ensures.vertices
-
-pub returns-clause-rows : goal.returns-clause-rows
-returns-clause-rows c =
+pub returns : goal.returns
+returns c =
     let a = c.args.a in
     let n : ℕ = a.width - a.skip in
     let lo = c.args.lo.now in
@@ -46,17 +43,5 @@ returns-clause-rows c =
     let b : (vertices_of c.rows.result).rows ≡ evm (length lo) (box_cells (length lo) lo hi) = ap (λ (p : Vertices). p.rows) c.rows.ensures ∙ c.in-Ok.ensures.rows in
     let e : c.in_ok-solid.solid.rows ≡ evm n (clip n lo hi (cells n V)) =
     clipped n (length lo) lo hi V (vertices_of c.rows.result).rows c.in_ok-solid.solid.rows l.0 b (and_rows (vertices_of a) (vertices_of c.rows.result) c.in_ok-solid.solid c.in_ok-solid.ensures.vertices) in
-    e
-
-pub returns-clause-cells : goal.returns-clause-cells
-returns-clause-cells c =
-    let a = c.args.a in
-    let n : ℕ = a.width - a.skip in
-    let lo = c.args.lo.now in
-    let hi = c.args.hi.now in
-    let V : List (List ℤ) = rows_of a.flat.now a.width a.skip in
-    let l = box_lengths n lo hi c.requires in
-    let b : (vertices_of c.rows.result).rows ≡ evm (length lo) (box_cells (length lo) lo hi) = ap (λ (p : Vertices). p.rows) c.rows.ensures ∙ c.in-Ok.ensures.rows in
-    let e : c.in_ok-solid.solid.rows ≡ evm n (clip n lo hi (cells n V)) =
-    clipped n (length lo) lo hi V (vertices_of c.rows.result).rows c.in_ok-solid.solid.rows l.0 b (and_rows (vertices_of a) (vertices_of c.rows.result) c.in_ok-solid.solid c.in_ok-solid.ensures.vertices) in
-    cells_of c.in_ok-solid.solid.dim n c.in_ok-solid.solid.rows (clip n lo hi (cells n V)) (and_dim (vertices_of a) (vertices_of c.rows.result) c.in_ok-solid.solid c.in_ok-solid.ensures.vertices) (cell_set-clip n lo hi (cells n V)) e
+    let d : c.in_ok-solid.solid.dim ≡ n = and_dim (vertices_of a) (vertices_of c.rows.result) c.in_ok-solid.solid c.in_ok-solid.ensures.vertices in
+    record { dim = d; rows = e; cells = cells_of _ n _ _ d (cell_set-clip n lo hi (cells n V)) e }

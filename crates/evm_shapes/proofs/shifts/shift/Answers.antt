@@ -63,22 +63,8 @@ from_rows-requires c =
     let s : IsCellSet n (shift n c.args.by.now (cells n V)) = cell_set-shift n c.args.by.now (cells n V) l (cell_set-cells n V) in
     rw c.dim-dim.ensures (are_rows_of n _ _ (omega (arith, a.left)) (omega (arith, a.narrow)) moved.0 s e)
 
-pub returns-clause-rows : goal.returns-clause-rows
-returns-clause-rows c =
-    let a = c.args.a in
-    let n : ℕ = a.width - a.skip in
-    let V : List (List ℤ) = rows_of a.flat.now a.width a.skip in
-    let l : length c.args.by.now ≡ n = shift_parts n c.args.by.now c.requires in
-    let fits : shift_fits n c.args.by.now (cells n V) ≡ true = shift_in_range n c.args.by.now V l a.vertices ∙ sym c.if-not-all_fit.ensures in
-    let written : c.append_all_added.new.out.items ≡ flat_of (map (added c.args.by.now) V) =
-    c.in_ok-append_all_added.ensures ∙ ap (λ (u : List ℤ). u ++ flat_of (map (added c.args.by.now) V)) c.in_ok-out.ensures.items in
-    let moved = added_rows n c.args.by.now V _ (omega (arith, a.left)) l a.vertices written in
-    let e : rows_of c.append_all_added.new.out.items n 0 ≡ evm n (shift n c.args.by.now (cells n V)) = moved.1 ∙ evm-shift n c.args.by.now V l a.vertices fits in
-    let s : IsCellSet n (shift n c.args.by.now (cells n V)) = cell_set-shift n c.args.by.now (cells n V) l (cell_set-cells n V) in
-    c.from_rows.ensures.rows ∙ ap (λ (m : ℕ). rows_of c.append_all_added.new.out.items m 0) c.dim-dim.ensures ∙ e
-
-pub returns-clause-cells : goal.returns-clause-cells
-returns-clause-cells c =
+pub returns : goal.returns
+returns c =
     let a = c.args.a in
     let n : ℕ = a.width - a.skip in
     let V : List (List ℤ) = rows_of a.flat.now a.width a.skip in
@@ -90,13 +76,5 @@ returns-clause-cells c =
     let e : rows_of c.append_all_added.new.out.items n 0 ≡ evm n (shift n c.args.by.now (cells n V)) = moved.1 ∙ evm-shift n c.args.by.now V l a.vertices fits in
     let s : IsCellSet n (shift n c.args.by.now (cells n V)) = cell_set-shift n c.args.by.now (cells n V) l (cell_set-cells n V) in
     let here : c.from_rows.result.rows ≡ evm n (shift n c.args.by.now (cells n V)) = c.from_rows.ensures.rows ∙ ap (λ (m : ℕ). rows_of c.append_all_added.new.out.items m 0) c.dim-dim.ensures ∙ e in
-    cells_of _ n _ _ (c.from_rows.ensures.dim ∙ c.dim-dim.ensures) s here
-
-pub returns-clause-range : goal.returns-clause-range
-returns-clause-range c =
-    let a = c.args.a in
-    let n : ℕ = a.width - a.skip in
-    let V : List (List ℤ) = rows_of a.flat.now a.width a.skip in
-    let l : length c.args.by.now ≡ n = shift_parts n c.args.by.now c.requires in
-    let fits : shift_fits n c.args.by.now (cells n V) ≡ true = shift_in_range n c.args.by.now V l a.vertices ∙ sym c.if-not-all_fit.ensures in
-    (λ h. absurd (not_ok c.from_rows.result _ refl h), λ h. absurd (true≢false (sym fits ∙ h)))
+    let d : c.from_rows.result.dim ≡ n = c.from_rows.ensures.dim ∙ c.dim-dim.ensures in
+    record { dim = d; rows = here; cells = cells_of _ n _ _ d s here; range = (λ h. absurd (not_ok c.from_rows.result _ refl h), λ h. absurd (true≢false (sym fits ∙ h))) }
