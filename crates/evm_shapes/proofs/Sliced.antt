@@ -26,16 +26,12 @@ use Rattle.evm_rows.proofs.Bridge.{wide-points}
 use Rattle.evm_boolean.proofs.TowerLaws.{flat_of-append}
 use native.Mathlib.Nat.{mul-mod_left}
 use Rattle.evm_shapes.specs.declared.moves.Move.TheVariants.{Raise}
-use Rattle.evm_shapes.specs.Moves.{moved}
+use Rattle.evm_shapes.specs.Moves.{moved, up_to}
 use Rattle.evm_shapes.specs.Order.{IsReduced}
 use Rattle.evm_shapes.proofs.MoveSteps.{without_parts}
 use Rattle.evm_shapes.proofs.Shaped.{wide-moved}
 
 -- ---- slices
-
--- the rows up to a height, without their number on the axis
-abbrev pub up_to : ℕ → ℤ → List (List ℤ) → List (List ℤ)
-up_to i k V = map (without i) (filter (λ q. int_le (coord i q) k) V)
 
 up_to-cons : (i : ℕ) (k : ℤ) (p : List ℤ) (V : List (List ℤ)) → up_to i k (p ∷ V) ≡ up_to i k (p ∷ []) ++ up_to i k V
 up_to-cons i k p V = at (int_le (coord i p) k)

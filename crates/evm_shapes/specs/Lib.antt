@@ -1,3 +1,4 @@
+pub mod Shapes
 pub mod Order
 pub mod Moves
 pub mod Unions

@@ -1,11 +1,11 @@
--- Moves of a row.
-use Rattle.std.specs.Prelude.{ℕ, ◌+◌, ◌<◌, ◌≤◌, ℤ, List, swap}
-use Rattle.evm_cells.specs.Places.{with_at}
+-- Moves of a row, and rows up to a height. Axes are counted from 0.
+use Rattle.std.specs.Prelude.{ℕ, ◌+◌, ◌<◌, ◌≤◌, ℤ, pos, int_le, List, map, filter, get_or, swap}
+use Rattle.evm_cells.specs.Places.{without, with_at}
 use Rattle.evm_cells.specs.Shapes.{negated, fronted}
 use Rattle.evm_shapes.specs.declared.moves.Move.{Move}
 use Rattle.evm_shapes.specs.declared.moves.Move.TheVariants.{Mirror, Swap, Front, Raise}
 
--- the moved row; axes are counted from 0
+-- the moved row
 abbrev pub moved : Move → List ℤ → List ℤ
 moved (Mirror i) p = negated i p
 moved (Swap i j) p = swap p i j
@@ -25,3 +25,7 @@ IsMoveOf n (Mirror i) = i < n
 IsMoveOf n (Swap i j) = (i < n) × (j < n)
 IsMoveOf n (Front i) = i < n
 IsMoveOf n (Raise i h) = i ≤ n
+
+-- the rows up to the height k on an axis, without their number there
+abbrev pub up_to : ℕ → ℤ → List (List ℤ) → List (List ℤ)
+up_to i k V = map (without i) (filter (λ q. int_le (get_or q i (pos 0)) k) V)

@@ -2,9 +2,10 @@
 ghost use Rattle.std.specs.Prelude.{◌≡◌, ◌↔◌, ◌+◌, ◌-◌, ◌<◌, ◌≤◌, ◌≤ℤ◌, ◌<ℤ◌, neg_ℤ, pos, true, false, IfOk, IsErrOf};
 ghost use Rattle.std.specs.List.{list_all};
 ghost use Rattle.evm_cells.specs.Limits.{limit, is_point_coord};
-ghost use Rattle.evm_cells.specs.Shapes.{lift, lift_fits};
-ghost use Rattle.evm_cells.specs.Vertices.{evm, cells};
+ghost use Rattle.evm_cells.specs.Vertices.{evm};
+ghost use Rattle.evm_rows.specs.Rows.{cells_of};
 ghost use Rattle.evm_rows.specs.View.{vertices_of};
+ghost use Rattle.evm_shapes.specs.Shapes.{lifted_cells, is_lift_in_range};
 
 use crate::moves::{Move, append_all_moved};
 use crate::order::reduced;
@@ -53,10 +54,10 @@ fn prism(alloc: Global, a: Rows<'_>, axis: usize, lo: i32, hi: i32) -> Result<So
     requires low { 0 < axis }
     requires high { axis ≤ (vertices_of a).dim + 1 }
     requires some { lo <ℤ hi }
-    requires fits { lift_fits ((vertices_of a).dim + 1) (axis - 1) lo hi (cells (vertices_of a).dim (vertices_of a).rows) ≡ true }
+    requires fits { is_lift_in_range axis lo hi (vertices_of a) ≡ true }
     ensures dim { IfOk result (λ s. s.dim ≡ (vertices_of a.entry).dim + 1) }
-    ensures rows { IfOk result (λ s. s.rows ≡ evm ((vertices_of a.entry).dim + 1) (lift ((vertices_of a.entry).dim + 1) (axis - 1) lo hi (cells (vertices_of a.entry).dim (vertices_of a.entry).rows))) }
-    ensures cells { IfOk result (λ s. cells s.dim s.rows ≡ lift ((vertices_of a.entry).dim + 1) (axis - 1) lo hi (cells (vertices_of a.entry).dim (vertices_of a.entry).rows)) }
+    ensures rows { IfOk result (λ s. s.rows ≡ evm ((vertices_of a.entry).dim + 1) (lifted_cells axis lo hi (vertices_of a.entry))) }
+    ensures cells { IfOk result (λ s. cells_of s ≡ lifted_cells axis lo hi (vertices_of a.entry)) }
 {
     let dim = a.dim() + 1;
     let mut raised = Vec::with_capacity(alloc, a.flat.len())?;
@@ -84,9 +85,9 @@ pub fn lift(alloc: Global, a: Rows<'_>, axis: usize, lo: i32, hi: i32) -> Result
     requires some { lo <ℤ hi }
     requires ends { hi ≤ℤ pos (limit ((vertices_of a).dim + 1)) }
     ensures dim { IfOk result (λ s. s.dim ≡ (vertices_of a.entry).dim + 1) }
-    ensures rows { IfOk result (λ s. s.rows ≡ evm ((vertices_of a.entry).dim + 1) (lift ((vertices_of a.entry).dim + 1) (axis - 1) lo hi (cells (vertices_of a.entry).dim (vertices_of a.entry).rows))) }
-    ensures cells { IfOk result (λ s. cells s.dim s.rows ≡ lift ((vertices_of a.entry).dim + 1) (axis - 1) lo hi (cells (vertices_of a.entry).dim (vertices_of a.entry).rows)) }
-    ensures range { IsErrOf result ShapeError.Range ↔ (lift_fits ((vertices_of a.entry).dim + 1) (axis - 1) lo hi (cells (vertices_of a.entry).dim (vertices_of a.entry).rows) ≡ false) }
+    ensures rows { IfOk result (λ s. s.rows ≡ evm ((vertices_of a.entry).dim + 1) (lifted_cells axis lo hi (vertices_of a.entry))) }
+    ensures cells { IfOk result (λ s. cells_of s ≡ lifted_cells axis lo hi (vertices_of a.entry)) }
+    ensures range { IsErrOf result ShapeError.Range ↔ (is_lift_in_range axis lo hi (vertices_of a.entry) ≡ false) }
 {
     if !all_within(a, a.dim() + 1) {
         return Err(ShapeError::Range);

@@ -1,9 +1,10 @@
 // Projections.
 ghost use Rattle.std.specs.Prelude.{◌≡◌, ◌-◌, ◌<◌, ◌≤◌, length, take, drop, IfOk, OnOk};
-ghost use Rattle.evm_cells.specs.Shapes.{proj};
-ghost use Rattle.evm_cells.specs.Vertices.{evm, cells};
+ghost use Rattle.evm_cells.specs.Vertices.{evm};
+ghost use Rattle.evm_rows.specs.Rows.{cells_of};
 ghost use Rattle.evm_rows.specs.View.{vertices_of};
 ghost use Rattle.evm_sections.specs.Couplets.{couplets_of};
+ghost use Rattle.evm_shapes.specs.Shapes.{projected_cells};
 ghost use Rattle.evm_shapes.specs.Unions.{united, sections_of};
 
 use crate::turns::fronted;
@@ -55,8 +56,8 @@ pub fn project(alloc: Global, a: Rows<'_>, axis: usize) -> Result<Solid, NoMemor
     requires low { 0 < axis }
     requires high { axis ≤ (vertices_of a).dim }
     ensures dim { IfOk result (λ s. s.dim ≡ (vertices_of a.entry).dim - 1) }
-    ensures rows { IfOk result (λ s. s.rows ≡ evm ((vertices_of a.entry).dim - 1) (proj ((vertices_of a.entry).dim - 1) (axis - 1) (cells (vertices_of a.entry).dim (vertices_of a.entry).rows))) }
-    ensures cells { IfOk result (λ s. cells s.dim s.rows ≡ proj ((vertices_of a.entry).dim - 1) (axis - 1) (cells (vertices_of a.entry).dim (vertices_of a.entry).rows)) }
+    ensures rows { IfOk result (λ s. s.rows ≡ evm ((vertices_of a.entry).dim - 1) (projected_cells axis (vertices_of a.entry))) }
+    ensures cells { IfOk result (λ s. cells_of s ≡ projected_cells axis (vertices_of a.entry)) }
 {
     let turned = fronted(alloc, a, axis)?;
     let couplets = count_couplets(turned.rows());

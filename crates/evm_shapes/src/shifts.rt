@@ -2,10 +2,11 @@
 ghost use Rattle.std.specs.Prelude.{◌≡◌, ◌↔◌, ◌++◌, ◌*◌, ◌<◌, ◌≤◌, ◌≤ℤ◌, ◌+ℤ◌, neg_ℤ, true, false, length, map, pos, IfOk, OnOk, IsErrOf};
 ghost use Rattle.std.specs.List.{list_all};
 ghost use Rattle.evm_cells.specs.Limits.{limit, is_point, is_point_coord};
-ghost use Rattle.evm_cells.specs.Shapes.{added, is_shift, shift, shift_fits};
-ghost use Rattle.evm_cells.specs.Vertices.{evm, cells};
-ghost use Rattle.evm_rows.specs.Rows.{flat_of};
+ghost use Rattle.evm_cells.specs.Shapes.{added, is_shift};
+ghost use Rattle.evm_cells.specs.Vertices.{evm};
+ghost use Rattle.evm_rows.specs.Rows.{flat_of, cells_of};
 ghost use Rattle.evm_rows.specs.View.{vertices_of};
+ghost use Rattle.evm_shapes.specs.Shapes.{shifted_cells, is_shift_in_range};
 ghost use Rattle.evm_shapes.specs.declared.shifts.ShapeError.{ShapeError};
 ghost use Rattle.evm_shapes.specs.declared.shifts.ShapeError.TheVariants.{NoMemory};
 
@@ -128,9 +129,9 @@ fn append_all_added(out: &mut Vec<i32>, a: Rows<'_>, by: &[i64]) -> Result<(), A
 pub fn shift(alloc: Global, a: Rows<'_>, by: &[i64]) -> Result<Solid, ShapeError>
     requires { is_shift (vertices_of a).dim by.now ≡ true }
     ensures dim { IfOk result (λ s. s.dim ≡ (vertices_of a.entry).dim) }
-    ensures rows { IfOk result (λ s. s.rows ≡ evm (vertices_of a.entry).dim (shift (vertices_of a.entry).dim by.now (cells (vertices_of a.entry).dim (vertices_of a.entry).rows))) }
-    ensures cells { IfOk result (λ s. cells s.dim s.rows ≡ shift (vertices_of a.entry).dim by.now (cells (vertices_of a.entry).dim (vertices_of a.entry).rows)) }
-    ensures range { IsErrOf result ShapeError.Range ↔ (shift_fits (vertices_of a.entry).dim by.now (cells (vertices_of a.entry).dim (vertices_of a.entry).rows) ≡ false) }
+    ensures rows { IfOk result (λ s. s.rows ≡ evm (vertices_of a.entry).dim (shifted_cells by.now (vertices_of a.entry))) }
+    ensures cells { IfOk result (λ s. cells_of s ≡ shifted_cells by.now (vertices_of a.entry)) }
+    ensures range { IsErrOf result ShapeError.Range ↔ (is_shift_in_range by.now (vertices_of a.entry) ≡ false) }
 {
     if !all_fit(a, by) {
         return Err(ShapeError::Range);

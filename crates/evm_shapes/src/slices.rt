@@ -1,11 +1,11 @@
 // Sections along any axis.
-ghost use Rattle.std.specs.Prelude.{◌≡◌, ◌-◌, ◌<◌, ◌≤◌, [], ◌∷◌, ◌++◌, int_le, pos, true, filter, get_or, map, length, IfOk, OnOk};
+ghost use Rattle.std.specs.Prelude.{◌≡◌, ◌-◌, ◌<◌, ◌≤◌, [], ◌∷◌, ◌++◌, true, length, IfOk, OnOk};
 ghost use Rattle.evm_cells.specs.Limits.{is_cell_coord};
-ghost use Rattle.evm_cells.specs.Places.{without};
-ghost use Rattle.evm_cells.specs.Sections.{slice};
-ghost use Rattle.evm_cells.specs.Vertices.{evm, cells};
-ghost use Rattle.evm_rows.specs.Rows.{flat_of};
+ghost use Rattle.evm_cells.specs.Vertices.{evm};
+ghost use Rattle.evm_rows.specs.Rows.{flat_of, cells_of};
 ghost use Rattle.evm_rows.specs.View.{vertices_of};
+ghost use Rattle.evm_shapes.specs.Moves.{up_to};
+ghost use Rattle.evm_shapes.specs.Shapes.{sliced_cells};
 
 use crate::order::reduced;
 use evm_rows::{NoMemory, Rows, Solid, split_row};
@@ -14,7 +14,7 @@ use std::alloc::{AllocError, Global};
 // Appends the row without its number at `axis`, if that number is at most `at`.
 fn append_up_to(out: &mut Vec<i32>, row: &[i32], axis: usize, at: i32) -> Result<(), AllocError>
     requires { axis < length row.now }
-    ensures { OnOk result (out.new.items ≡ out.old.items ++ flat_of (map (without axis) (filter (λ q. int_le (get_or q axis (pos 0)) at) (row.now ∷ [])))) }
+    ensures { OnOk result (out.new.items ≡ out.old.items ++ flat_of (up_to axis at (row.now ∷ []))) }
 {
     if row[axis] <= at {
         out.extend_from_slice(&row[..axis])?;
@@ -26,7 +26,7 @@ fn append_up_to(out: &mut Vec<i32>, row: &[i32], axis: usize, at: i32) -> Result
 // Appends each row up to the height `at` on an axis, without its number there.
 fn append_all_up_to(out: &mut Vec<i32>, a: Rows<'_>, axis: usize, at: i32) -> Result<(), AllocError>
     requires { axis < (vertices_of a).dim }
-    ensures { OnOk result (out.new.items ≡ out.old.items ++ flat_of (map (without axis) (filter (λ q. int_le (get_or q axis (pos 0)) at) (vertices_of a.entry).rows))) }
+    ensures { OnOk result (out.new.items ≡ out.old.items ++ flat_of (up_to axis at (vertices_of a.entry).rows)) }
 {
     let mut left = a.flat;
     while left.len() != 0 {
@@ -46,8 +46,8 @@ pub fn slice(alloc: Global, a: Rows<'_>, axis: usize, at: i32) -> Result<Solid, 
     requires high { axis ≤ (vertices_of a).dim }
     requires height { is_cell_coord (vertices_of a).dim at ≡ true }
     ensures dim { IfOk result (λ s. s.dim ≡ (vertices_of a.entry).dim - 1) }
-    ensures rows { IfOk result (λ s. s.rows ≡ evm ((vertices_of a.entry).dim - 1) (slice ((vertices_of a.entry).dim - 1) (axis - 1) at (cells (vertices_of a.entry).dim (vertices_of a.entry).rows))) }
-    ensures cells { IfOk result (λ s. cells s.dim s.rows ≡ slice ((vertices_of a.entry).dim - 1) (axis - 1) at (cells (vertices_of a.entry).dim (vertices_of a.entry).rows)) }
+    ensures rows { IfOk result (λ s. s.rows ≡ evm ((vertices_of a.entry).dim - 1) (sliced_cells axis at (vertices_of a.entry))) }
+    ensures cells { IfOk result (λ s. cells_of s ≡ sliced_cells axis at (vertices_of a.entry)) }
 {
     let dim = a.dim() - 1;
     let mut below = Vec::with_capacity(alloc, a.flat.len())?;

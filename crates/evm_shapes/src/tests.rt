@@ -31,7 +31,7 @@ fn turned(alloc: Global) -> Result<(bool, bool), NoMemory> {
 }
 
 // What is inside a box.
-#[tactic(auto, unfolding(evm_cells::specs::Limits::limit, evm_cells::specs::Limits::is_point, evm_cells::specs::Limits::is_point_coord, evm_cells::specs::Limits::is_cell_coord, evm_cells::specs::Places::each, evm_cells::specs::Shapes::is_shift))]
+#[tactic(auto, unfolding(evm_cells::specs::Limits::limit, evm_cells::specs::Limits::is_point, evm_cells::specs::Limits::is_point_coord, evm_cells::specs::Places::each))]
 fn clipped(alloc: Global) -> Result<bool, NoMemory> {
     let a = two_cells(alloc)?;
     let right = clip(alloc, a.rows(), &[1, 0], &[5, 5])?;
@@ -39,7 +39,7 @@ fn clipped(alloc: Global) -> Result<bool, NoMemory> {
 }
 
 // A prism, a section of it and its projection.
-#[tactic(auto, unfolding(evm_cells::specs::Limits::limit, evm_cells::specs::Limits::is_point, evm_cells::specs::Limits::is_point_coord, evm_cells::specs::Limits::is_cell_coord, evm_cells::specs::Places::each, evm_cells::specs::Shapes::is_shift))]
+#[tactic(auto, unfolding(evm_cells::specs::Limits::limit, evm_cells::specs::Limits::is_cell_coord))]
 fn raised(alloc: Global) -> Result<(bool, bool, bool), NoMemory> {
     let a = two_cells(alloc)?;
     let Ok(prism) = lift(alloc, a.rows(), 3, 4, 6) else {
@@ -61,7 +61,7 @@ fn raised(alloc: Global) -> Result<(bool, bool, bool), NoMemory> {
 }
 
 // The projection of two cells, one above the other, and the section between them.
-#[tactic(auto, unfolding(evm_cells::specs::Limits::limit, evm_cells::specs::Limits::is_point, evm_cells::specs::Limits::is_point_coord, evm_cells::specs::Limits::is_cell_coord, evm_cells::specs::Places::each, evm_cells::specs::Shapes::is_shift))]
+#[tactic(auto, unfolding(evm_cells::specs::Limits::limit, evm_cells::specs::Limits::is_cell_coord))]
 fn stacked(alloc: Global) -> Result<(bool, bool), NoMemory> {
     let (Ok(low), Ok(high)) = (
         Solid::of_box(alloc, &[0, 0, 0], &[1, 1, 1]),
@@ -79,7 +79,7 @@ fn stacked(alloc: Global) -> Result<(bool, bool), NoMemory> {
 }
 
 // A cell that is moved to the limit, and one that would leave it.
-#[tactic(auto, unfolding(evm_cells::specs::Limits::limit, evm_cells::specs::Limits::is_point, evm_cells::specs::Limits::is_point_coord, evm_cells::specs::Limits::is_cell_coord, evm_cells::specs::Places::each, evm_cells::specs::Shapes::is_shift))]
+#[tactic(auto, unfolding(evm_cells::specs::Limits::limit, evm_cells::specs::Shapes::is_shift))]
 fn moved(alloc: Global) -> Result<(bool, bool), NoMemory> {
     let a = two_cells(alloc)?;
     let far = shift(alloc, a.rows(), &[1_073_741_822, 0]);

@@ -1,11 +1,11 @@
 // Mirror images, and axes that change places.
 ghost use Rattle.std.specs.Prelude.{◌≡◌, ◌-◌, ◌<◌, ◌≤◌, ◌%◌, length, map, IfOk};
-ghost use Rattle.evm_cells.specs.Shapes.{mirror, swap_axes, front};
-ghost use Rattle.evm_cells.specs.Vertices.{evm, cells};
-ghost use Rattle.evm_rows.specs.Rows.{rows_of};
+ghost use Rattle.evm_cells.specs.Vertices.{evm};
+ghost use Rattle.evm_rows.specs.Rows.{rows_of, cells_of};
 ghost use Rattle.evm_rows.specs.View.{vertices_of};
 ghost use Rattle.evm_shapes.specs.Moves.{moved, moved_dim, IsMoveOf};
 ghost use Rattle.evm_shapes.specs.Order.{IsReduced};
+ghost use Rattle.evm_shapes.specs.Shapes.{mirrored_cells, swapped_cells, fronted_cells};
 
 use crate::moves::{Move, append_all_moved};
 use crate::order::reduced;
@@ -33,8 +33,8 @@ pub fn mirror(alloc: Global, a: Rows<'_>, axis: usize) -> Result<Solid, NoMemory
     requires low { 0 < axis }
     requires high { axis ≤ (vertices_of a).dim }
     ensures dim { IfOk result (λ s. s.dim ≡ (vertices_of a.entry).dim) }
-    ensures rows { IfOk result (λ s. s.rows ≡ evm (vertices_of a.entry).dim (mirror (vertices_of a.entry).dim (axis - 1) (cells (vertices_of a.entry).dim (vertices_of a.entry).rows))) }
-    ensures cells { IfOk result (λ s. cells s.dim s.rows ≡ mirror (vertices_of a.entry).dim (axis - 1) (cells (vertices_of a.entry).dim (vertices_of a.entry).rows)) }
+    ensures rows { IfOk result (λ s. s.rows ≡ evm (vertices_of a.entry).dim (mirrored_cells axis (vertices_of a.entry))) }
+    ensures cells { IfOk result (λ s. cells_of s ≡ mirrored_cells axis (vertices_of a.entry)) }
 {
     let dim = a.dim();
     let flat = rearranged(alloc, a, Move::Mirror(axis - 1))?;
@@ -49,8 +49,8 @@ pub fn swap(alloc: Global, a: Rows<'_>, i: usize, j: usize) -> Result<Solid, NoM
     requires second_low { 0 < j }
     requires second_high { j ≤ (vertices_of a).dim }
     ensures dim { IfOk result (λ s. s.dim ≡ (vertices_of a.entry).dim) }
-    ensures rows { IfOk result (λ s. s.rows ≡ evm (vertices_of a.entry).dim (swap_axes (vertices_of a.entry).dim (i - 1) (j - 1) (cells (vertices_of a.entry).dim (vertices_of a.entry).rows))) }
-    ensures cells { IfOk result (λ s. cells s.dim s.rows ≡ swap_axes (vertices_of a.entry).dim (i - 1) (j - 1) (cells (vertices_of a.entry).dim (vertices_of a.entry).rows)) }
+    ensures rows { IfOk result (λ s. s.rows ≡ evm (vertices_of a.entry).dim (swapped_cells i j (vertices_of a.entry))) }
+    ensures cells { IfOk result (λ s. cells_of s ≡ swapped_cells i j (vertices_of a.entry)) }
 {
     let dim = a.dim();
     let flat = rearranged(alloc, a, Move::Swap(i - 1, j - 1))?;
@@ -63,7 +63,7 @@ pub(crate) fn fronted(alloc: Global, a: Rows<'_>, axis: usize) -> Result<Solid, 
     requires low { 0 < axis }
     requires high { axis ≤ (vertices_of a).dim }
     ensures dim { IfOk result (λ s. s.dim ≡ (vertices_of a.entry).dim) }
-    ensures rows { IfOk result (λ s. s.rows ≡ evm (vertices_of a.entry).dim (front (vertices_of a.entry).dim (axis - 1) (cells (vertices_of a.entry).dim (vertices_of a.entry).rows))) }
+    ensures rows { IfOk result (λ s. s.rows ≡ evm (vertices_of a.entry).dim (fronted_cells axis (vertices_of a.entry))) }
 {
     let dim = a.dim();
     let flat = rearranged(alloc, a, Move::Front(axis - 1))?;

@@ -1,6 +1,6 @@
 use Rattle.std.proofs.Common.{◌≡◌, ◌%◌, ◌++◌, length}
 use Rattle.evm_rows.specs.Rows.{rows_of, flat_of}
-use Rattle.evm_shapes.proofs.Sliced.{up_to}
+use Rattle.evm_shapes.specs.Moves.{up_to}
 use Rattle.evm_shapes.proofs.slices.append_all_up_to.Given as goal
 
 abbrev pub invariant-loop-left : goal.invariant-loop-left
