@@ -6,6 +6,7 @@ use Rattle.evm_model.specs.Figures.{Figure, nothing}
 use Rattle.evm_model.specs.Formulas.{Parts, Both, Block, Shaped, boolean_of, shape_of, shape_stays, parts_of, parts_operands, parts_value, parts_stay}
 use Rattle.evm_model.specs.Orders.{is_among, AllSeen, Ordered}
 use Rattle.evm_model.specs.Scene.{What, Given, Made, Entry, Scene, entry_of, stands, operands, what_operands, entry_operands, operands_of, formula_value, formula_stays, what_value, what_stays, entry_value, value_within, value, reaches_within, reaches}
+use Rattle.evm_model.proofs.Lookups.{none_stands}
 use Rattle.evm_model.proofs.Names.{by_test, by_among, not_both, or_left, or_right, among_here, among_later, among_none, apart_back, any_among, none_passes}
 
 -- two functions of names, each by levels of operands, agree on an ordered list at as many levels as names were passed
@@ -99,16 +100,17 @@ ordered_reads reads seen (y ∷ ys) h x there o r =
     flip true b c e = or_right b true refl
     flip false b c e = e
 
+-- a value of a name that does not stand
+pub none_value : (es : List Entry) (x : List ℕ) → entry_of es x ≡ None → (n : ℕ) → value_within n es x ≡ nothing 0
+none_value es x q zero = ap (λ (e : Option Entry). entry_value e (λ o. nothing 0)) q
+none_value es x q (suc n) = ap (λ (e : Option Entry). entry_value e (λ o. value_within n es o)) q
+
 -- a scene whose names stand in an order
 module _ (scene : Scene) (order : List (List ℕ)) (ordered : Ordered (operands_of scene.entries) [] order)
     (whole : (x : List ℕ) → is_among x order ≡ stands scene x) (size : length order ≡ length scene.entries) where
   -- a name that does not stand has no entry
   no_entry : (x : List ℕ) → is_among x order ≡ false → entry_of scene.entries x ≡ None
-  no_entry x out = by (entry_of scene.entries x) refl
-    where
-      by : (e : Option Entry) → entry_of scene.entries x ≡ e → e ≡ None
-      by None q = refl
-      by (Some e) q = not_both (is_some (entry_of scene.entries x)) (ap (λ (o : Option Entry). is_some o) q) (sym (whole x) ∙ out)
+  no_entry x out = none_stands scene.entries x (sym (whole x) ∙ out)
 
   pub operands_stand : (x o : List ℕ) → is_among o (operands_of scene.entries x) ≡ true → stands scene o ≡ true
   operands_stand x o r =
@@ -116,17 +118,13 @@ module _ (scene : Scene) (order : List (List ℕ)) (ordered : Ordered (operands_
       (λ l. sym (whole o) ∙ ordered_reads (operands_of scene.entries) [] order ordered x l o r)
       (λ out. among_none o (subst (λ (e : Option Entry). is_among o (entry_operands e) ≡ true) (no_entry x out) r))
 
-  value_none : (x : List ℕ) → entry_of scene.entries x ≡ None → (n : ℕ) → value_within n scene.entries x ≡ nothing 0
-  value_none x q zero = ap (λ (e : Option Entry). entry_value e (λ o. nothing 0)) q
-  value_none x q (suc n) = ap (λ (e : Option Entry). entry_value e (λ o. value_within n scene.entries o)) q
-
   -- more levels change no value
   pub value_levels : (x : List ℕ) (n : ℕ) → length order ≤ n → value_within n scene.entries x ≡ value scene x
   value_levels x n deep =
       by_test (is_among x order)
       (λ l. levels_agree (operands_of scene.entries) (λ y g. entry_value (entry_of scene.entries y) g) (λ k y. value_within k scene.entries y) (λ k y. value_within k scene.entries y)
       (λ y g h same. entry_same (entry_of scene.entries y) g h same) [] order ordered (λ y m k. refl) (λ y m k. refl) 0 (λ y m i j a b. among_none y m) x l n (length scene.entries) (omega arith) (omega arith))
-      (λ out. value_none x (no_entry x out) n ∙ sym (value_none x (no_entry x out) (length scene.entries)))
+      (λ out. none_value scene.entries x (no_entry x out) n ∙ sym (none_value scene.entries x (no_entry x out) (length scene.entries)))
 
   -- the value of a name follows its formula
   pub value_step : (x : List ℕ) → value scene x ≡ entry_value (entry_of scene.entries x) (value scene)
@@ -138,7 +136,7 @@ module _ (scene : Scene) (order : List (List ℕ)) (ordered : Ordered (operands_
       by_test (is_among x order)
       (λ l. fixed_agree (operands_of scene.entries) (λ y g. entry_value (entry_of scene.entries y) g) f (value scene)
       (λ y g h same. entry_same (entry_of scene.entries y) g h same) order ordered (λ y m. fixed y) (λ y m. value_step y) x l)
-      (λ out. fixed x ∙ ap (λ (e : Option Entry). entry_value e f) (no_entry x out) ∙ sym (value_none x (no_entry x out) (length scene.entries)))
+      (λ out. fixed x ∙ ap (λ (e : Option Entry). entry_value e f) (no_entry x out) ∙ sym (none_value scene.entries x (no_entry x out) (length scene.entries)))
 
   -- more levels reach nothing more
   reaches_none : (x y : List ℕ) → entry_of scene.entries x ≡ None → (n : ℕ) → reaches_within n scene.entries x y ≡ false

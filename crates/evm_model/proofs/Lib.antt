@@ -1,6 +1,6 @@
 pub mod Names
-pub mod Levels
 pub mod Lookups
+pub mod Levels
 pub mod Counts
 pub mod Orders
 pub mod OrderExists

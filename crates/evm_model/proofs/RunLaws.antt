@@ -164,9 +164,7 @@ kept_turn files fetched scene c file d = ap (λ (p : Option (List ℕ × List �
 kept_line : (files : Files) (fetched : Fetches) (scene : Scene) (r : Result Command LineError) (file : List ℕ) → of_line (saves_to file) r ≡ false
     → fetched_from (with_placed files (line_turn fetched scene r).placed) file ≡ fetched_from files file
 kept_line files fetched scene (Ok c) file d = kept_turn files fetched scene c file d
-kept_line files fetched scene (Err faults.Long) file d = refl
-kept_line files fetched scene (Err faults.Syntax) file d = refl
-kept_line files fetched scene (Err faults.NoMemory) file d = refl
+kept_line files fetched scene (Err e) file d = refl
 
 kept_step : (files : Files) (fetched : Fetches) (scene : Scene) (line file : List ℕ) → of_line (saves_to file) (command line) ≡ false
     → fetched_from (with_placed files (step fetched scene line).placed) file ≡ fetched_from files file

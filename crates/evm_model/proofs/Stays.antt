@@ -12,7 +12,7 @@ use Rattle.evm_model.specs.Scene.{Scene, Entry, What, Given, Made, entry_of, sta
 use Rattle.evm_model.specs.Edits.{Edit, Input, Toggle, Add, Cut, Replace, Def, Drop, name_of, after}
 use Rattle.evm_model.proofs.Names.{by_test, not_both, not_true, same_name, name_itself, or_left, or_none, neither, among_none, among_filter, some_passes, none_passes, any_among, apart_back}
 use Rattle.evm_model.proofs.Lookups.{none_stands, with_other, length-with, without_other, without_none, length-without, push_other, length-push}
-use Rattle.evm_model.proofs.Levels.{levels_agree, fixed_agree, entry_same, what_stays_same}
+use Rattle.evm_model.proofs.Levels.{none_value, levels_agree, fixed_agree, entry_same, what_stays_same}
 use Rattle.evm_model.proofs.Orders.{ordered_filter}
 use Rattle.evm_model.proofs.WellScenes.{well_reaches, well_from_none, found_stays, all_entries, well_order}
 
@@ -78,11 +78,6 @@ at_edit s (Cut name nums) = at_figure s name (sub_of (value s name) (box_at (dim
 at_edit s (Replace name figure) = at_figure s name figure
 at_edit s (Def name formula) = at_formula s name formula
 at_edit s (Drop name) = at_drop s name
-
--- a value of a name that does not stand
-none_value : (es : List Entry) (x : List ℕ) → entry_of es x ≡ None → (n : ℕ) → value_within n es x ≡ nothing 0
-none_value es x q zero = ap (λ (e : Option Entry). entry_value e (λ o. nothing 0)) q
-none_value es x q (suc n) = ap (λ (e : Option Entry). entry_value e (λ o. value_within n es o)) q
 
 length-kept : (p : List ℕ → Bool) (xs : List (List ℕ)) → length (filter p xs) ≤ length xs
 length-kept p xs = omega (arith, length-filter p xs, count_by-le-length p xs)

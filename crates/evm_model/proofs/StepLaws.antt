@@ -16,7 +16,7 @@ use Rattle.evm_model.specs.Edits as codes
 use Rattle.evm_model.specs.Edits.{Edit, Input, Toggle, Add, Cut, Replace, Def, Drop, EditFits, Code, Missing, Shelf, Memory, first_cause, name_causes, place_causes, section_causes, axis_causes, edit_causes, refusal, after, changed}
 use Rattle.evm_model.specs.Replies.{Reply, No, Changed, is_no}
 use Rattle.evm_model.specs.Laws.{is_edit, is_edit_way, is_save, is_save_way}
-use Rattle.evm_model.specs.Steps.{Way, Edits, Asks, Loads, Saves, way_of, way_turn, way_fetches, way_asks, edit_reply, save_causes, command_asks, asks, Turn, stays, unless_refused, edited, load_causes, loaded, file_causes, load_turn, saved, turn_of, line_turn, step, command_fetches, of_line, fetches}
+use Rattle.evm_model.specs.Steps.{fault_reply, Way, Edits, Asks, Loads, Saves, way_of, way_turn, way_fetches, way_asks, edit_reply, save_causes, command_asks, asks, Turn, stays, unless_refused, edited, load_causes, loaded, file_causes, load_turn, saved, turn_of, line_turn, step, command_fetches, of_line, fetches}
 use Rattle.evm_model.proofs.EditLaws.{well_edit}
 use Rattle.evm_model.proofs.Names.{not_true, among_none, or-false}
 use Rattle.evm_model.proofs.LoadLaws.{first_passes, first_front, some_cause, well_load}
@@ -118,12 +118,15 @@ quiet_way fetched scene (Asks causes answer) p = quiet fetched scene (Asks cause
 quiet_way fetched scene (Loads name form file) p = quiet_load fetched scene name file form
 quiet_way fetched scene (Saves name form file) p = quiet fetched scene (Saves name form file) (mild_unless is_outer scene _ (save_causes scene name) refl refl)
 
+quiet_fault : (scene : Scene) (e : LineError) → IsMild is_outer scene (stays scene (fault_reply e))
+quiet_fault scene faults.Long = (λ h. (refl, refl), refl)
+quiet_fault scene faults.Syntax = (λ h. (refl, refl), refl)
+quiet_fault scene faults.NoMemory = (λ h. (refl, refl), refl)
+
 quiet_line : (fetched : Fetches) (scene : Scene) (r : Result Command LineError)
     → IsMild by_mark scene (line_turn fetched scene r) × (of_line (command_fetches scene) r ≡ false → IsMild is_outer scene (line_turn fetched scene r))
 quiet_line fetched scene (Ok c) = quiet_way fetched scene (way_of c) (plain_way c)
-quiet_line fetched scene (Err faults.Long) = ((λ h. (refl, refl), refl), λ h. (λ k. (refl, refl), refl))
-quiet_line fetched scene (Err faults.Syntax) = ((λ h. (refl, refl), refl), λ h. (λ k. (refl, refl), refl))
-quiet_line fetched scene (Err faults.NoMemory) = ((λ h. (refl, refl), refl), λ h. (λ k. (refl, refl), refl))
+quiet_line fetched scene (Err e) = let m = quiet_fault scene e in (outer_mild scene (stays scene (fault_reply e)) m, λ h. m)
 
 pub mild_step : (fetched : Fetches) (scene : Scene) (line : List ℕ) → IsMild by_mark scene (step fetched scene line)
 unfolding step
@@ -155,9 +158,7 @@ others_way f g scene _ h = refl
 
 others_line : (f g : Fetches) (scene : Scene) (r : Result Command LineError) → of_line (command_fetches scene) r ≡ false → line_turn f scene r ≡ line_turn g scene r
 others_line f g scene (Ok c) h = others_way f g scene (way_of c) h
-others_line f g scene (Err faults.Long) h = refl
-others_line f g scene (Err faults.Syntax) h = refl
-others_line f g scene (Err faults.NoMemory) h = refl
+others_line f g scene (Err e) h = refl
 
 pub others_read_none : (f g : Fetches) (scene : Scene) (line : List ℕ) → fetches scene line ≡ false → step f scene line ≡ step g scene line
 unfolding step fetches
@@ -193,9 +194,7 @@ unsaved_turn fetched scene c h = unsaved_way fetched scene (way_of c) h
 
 unsaved_line : (fetched : Fetches) (scene : Scene) (r : Result Command LineError) → of_line is_save r ≡ false → (line_turn fetched scene r).placed ≡ None
 unsaved_line fetched scene (Ok c) h = unsaved_turn fetched scene c h
-unsaved_line fetched scene (Err faults.Long) h = refl
-unsaved_line fetched scene (Err faults.Syntax) h = refl
-unsaved_line fetched scene (Err faults.NoMemory) h = refl
+unsaved_line fetched scene (Err e) h = refl
 
 pub only_saves : (fetched : Fetches) (scene : Scene) (line : List ℕ) → of_line is_save (command line) ≡ false → (step fetched scene line).placed ≡ None
 unfolding step
@@ -257,9 +256,7 @@ well_way fetched scene (Saves name form file) p well = well_left scene _ well (q
 
 well_line : (fetched : Fetches) (scene : Scene) (r : Result Command LineError) → IsWell scene → IsWell (line_turn fetched scene r).scene
 well_line fetched scene (Ok c) well = well_way fetched scene (way_of c) (plain_way c) well
-well_line fetched scene (Err faults.Long) well = well
-well_line fetched scene (Err faults.Syntax) well = well
-well_line fetched scene (Err faults.NoMemory) well = well
+well_line fetched scene (Err e) well = well
 
 pub well_step : (fetched : Fetches) (scene : Scene) (line : List ℕ) → IsWell scene → IsWell (step fetched scene line).scene
 unfolding step

@@ -135,12 +135,16 @@ way_turn fetched scene (Saves name form file) = save_turn scene name form file
 abbrev pub turn_of : Fetches → Scene → Command → Turn
 turn_of fetched scene c = way_turn fetched scene (way_of c)
 
--- a line that is no command is refused (a definition of commands never lacks memory)
+-- the answer to a line that is no command (a definition of commands never lacks memory)
+abbrev pub fault_reply : LineError → Reply
+fault_reply faults.Long = No Line
+fault_reply faults.Syntax = No Syntax
+fault_reply faults.NoMemory = Empty
+
+-- what a line does that was read as a command, or as none
 abbrev pub line_turn : Fetches → Scene → Result Command LineError → Turn
 line_turn fetched scene (Ok c) = turn_of fetched scene c
-line_turn fetched scene (Err faults.Long) = stays scene (No Line)
-line_turn fetched scene (Err faults.Syntax) = stays scene (No Syntax)
-line_turn fetched scene (Err faults.NoMemory) = stays scene Empty
+line_turn fetched scene (Err e) = stays scene (fault_reply e)
 
 -- what a line does in a scene, where fetches give this
 unfoldable pub step : Fetches → Scene → List ℕ → Turn

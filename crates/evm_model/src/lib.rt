@@ -10,9 +10,10 @@
 //! what they reach. A scene is **well** where names differ, dimensions are 2 to 6, each input is a cell set, each formula fits
 //! its operands, no shift and no lift makes a place out of the limits, operands stand, and no name reaches itself.
 //! A **step** is what one line does: its reply, the scene after it, and the file that it places. It is given what a fetch of
-//! each file name gives. A **world** is a scene and the files of a shelf. A **run** takes the lines of a script in order, each
-//! with a mark that says whether it was answered, memory was missing, or the shelf failed; where a shelf does not tell its
-//! files, the mark also says what a load fetched.
+//! each file name gives. A command goes one of four **ways**: an edit, a question, a load or a save. A **world** is a scene
+//! and the files of a shelf. A **run** takes the lines of a script in order, each with a mark that says whether it was
+//! answered, memory was missing, or the shelf failed; where a shelf does not tell its files, the mark also says what a load
+//! fetched.
 #![tactic(auto)]
 
 ghost use Rattle.evm_model.specs.Laws.{SameIsEqual, RefusalsBeginWithNo, RepliesAreLines};
