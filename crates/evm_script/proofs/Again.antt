@@ -5,7 +5,9 @@ use Rattle.std.specs.Option.{option_zip}
 use Rattle.std.specs.Fmt.{signed_decimal}
 use Rattle.std.specs.List.{list_all}
 use Rattle.evm_outside.specs.Shelves.{is_file_name}
-use Rattle.evm_script.specs.Words.{words, is_name, in_number_range, keeps_nums, line_max}
+use Rattle.evm_text.specs.Words.{words}
+use Rattle.evm_text.specs.Numbers.{in_number_range}
+use Rattle.evm_script.specs.Words.{is_name, keeps_nums, line_max}
 use Rattle.evm_script.specs.Shapes.{of_pair, of_three}
 use Rattle.evm_script.specs.Formulas.{formula_of}
 use Rattle.evm_script.specs.Line.{command, command_of_words, form_of, or_syntax}

@@ -7,8 +7,9 @@ use Rattle.std.specs.Fmt.{signed_decimal}
 use Rattle.std.specs.List.{list_all}
 use Rattle.std.proofs.lemmas.Bool.{and_parts, and_from, leb-true, le-leb}
 use Rattle.std.proofs.lemmas.Bool.Decides.{nat_tests}
-use Rattle.evm_script.specs.Words.{is_name, is_name_byte, is_small_letter, in_number_range, keeps_nums, nums_max, name_max}
-use Rattle.evm_script.specs.Shapes.{name_of, name_number, name_two_numbers, name_three_numbers, name_numbers, two_names, two_numbers, three_numbers, number_numbers, numbers, some_numbers}
+use Rattle.evm_text.specs.Numbers.{in_number_range, numbers}
+use Rattle.evm_script.specs.Words.{is_name, is_name_byte, is_small_letter, keeps_nums, nums_max, name_max}
+use Rattle.evm_script.specs.Shapes.{name_of, name_number, name_two_numbers, name_three_numbers, name_numbers, two_names, two_numbers, three_numbers, number_numbers, some_numbers}
 use Rattle.evm_script.proofs.Spaced.{is_plain}
 use Rattle.evm_script.proofs.Decimals.{number_again, numbers_again, plain_number, plain_numbers}
 

@@ -9,7 +9,9 @@ use Rattle.std.proofs.lemmas.Bool.{and_parts, and_from, le-ltb, leb-true, cases_
 use Rattle.std.proofs.lemmas.Bool.Decides.{nat_tests}
 use Rattle.std.proofs.lemmas.List.{get_or_past, take_more, flat_map_more, append-nil}
 use Rattle.std.specs.Fmt.{signed_decimal}
-use Rattle.evm_script.specs.Words.{is_blank, words, without_cr, line_max}
+use Rattle.evm_text.specs.Lines.{without_cr}
+use Rattle.evm_text.specs.Words.{is_blank, is_filled, words}
+use Rattle.evm_script.specs.Words.{line_max}
 use Rattle.evm_script.specs.Printed.{spaced, formula_words}
 use Rattle.evm_script.specs.declared.formula.Formula.{Formula}
 use Rattle.evm_script.specs.declared.formula.Formula.TheVariants as formulas
@@ -68,18 +70,19 @@ few_bytes w h =
     let sizes = (and_parts (list_all (nat_lt 32) w) _ h).1 in
     leb-true (length w) 64 (and_parts (nat_le 1 (length w)) _ sizes).1
 
-kept : (w : List ℕ) (ws : List (List ℕ)) → not (nat_eq (length w) 0) ≡ true → filter (λ x. not (nat_eq (length x) 0)) (w ∷ ws) ≡ w ∷ filter (λ x. not (nat_eq (length x) 0)) ws
-kept w ws h = ap (λ (b : Bool). if b then w ∷ filter (λ x. not (nat_eq (length x) 0)) ws else filter (λ x. not (nat_eq (length x) 0)) ws) h
+kept : (w : List ℕ) (ws : List (List ℕ)) → not (nat_eq (length w) 0) ≡ true → filter is_filled (w ∷ ws) ≡ w ∷ filter is_filled ws
+kept w ws h = ap (λ (b : Bool). if b then w ∷ filter is_filled ws else filter is_filled ws) h
 
 -- the words of spaced words
 pub words_spaced : (ws : List (List ℕ)) → list_all is_plain ws ≡ true → words (spaced ws) ≡ ws
+unfolding words
 words_spaced [] h = refl
 words_spaced (w ∷ []) h =
     let plain = (and_parts (is_plain w) _ h).0 in
-    ap (filter (λ x. not (nat_eq (length x) 0))) (slice_split_none is_blank w (no_blanks w plain)) ∙ kept w [] (some_bytes w plain)
+    ap (filter is_filled) (slice_split_none is_blank w (no_blanks w plain)) ∙ kept w [] (some_bytes w plain)
 words_spaced (w ∷ x ∷ ws) h =
     let both = and_parts (is_plain w) _ h in
-    ap (filter (λ x. not (nat_eq (length x) 0))) (slice_split_at is_blank w 32 (spaced (x ∷ ws)) (no_blanks w both.0) refl)
+    ap (filter is_filled) (slice_split_at is_blank w 32 (spaced (x ∷ ws)) (no_blanks w both.0) refl)
     ∙ kept w (slice_split is_blank (spaced (x ∷ ws))) (some_bytes w both.0)
     ∙ ap (λ (t : List (List ℕ)). w ∷ t) (words_spaced (x ∷ ws) both.1)
 

@@ -2,7 +2,7 @@
 use Rattle.std.specs.Prelude.{ℕ, if◌then◌else◌, List, [], ◌∷◌, Option, None, Some, codes, option_map, ℤ}
 use Rattle.std.specs.Option.{option_zip}
 use Rattle.evm_outside.specs.Shelves.{is_file_name}
-use Rattle.evm_script.specs.Words.{number}
+use Rattle.evm_text.specs.Numbers.{number}
 use Rattle.evm_script.specs.Shapes.{same_bytes, name_of}
 use Rattle.evm_script.specs.declared.files.LoadForm.{LoadForm}
 use Rattle.evm_script.specs.declared.files.LoadForm.TheVariants as forms

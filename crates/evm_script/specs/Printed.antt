@@ -3,7 +3,9 @@ use Rattle.std.specs.Prelude.{ℕ, ◌≡◌, true, List, [], ◌∷◌, map, So
 use Rattle.std.specs.List.{join_with_byte}
 use Rattle.std.specs.Fmt.{signed_decimal}
 use Rattle.evm_outside.specs.Shelves.{is_file_name}
-use Rattle.evm_script.specs.Words.{words, is_name, in_number_range, keeps_nums}
+use Rattle.evm_text.specs.Words.{words}
+use Rattle.evm_text.specs.Numbers.{in_number_range}
+use Rattle.evm_script.specs.Words.{is_name, keeps_nums}
 use Rattle.evm_script.specs.Formulas.{formula_of}
 use Rattle.evm_script.specs.Line.{command}
 use Rattle.evm_script.specs.declared.command.Command.{Command}

@@ -1,7 +1,8 @@
 -- Shapes of what follows the first word of a form: names and numbers, each a word.
 use Rattle.std.specs.Prelude.{ℕ, Bool, ◌&&◌, nat_le, if◌then◌else◌, List, [], ◌∷◌, length, Option, None, Some, ℤ, bytes_eq}
 use Rattle.std.specs.Option.{option_zip}
-use Rattle.evm_script.specs.Words.{nums_max, is_name, number}
+use Rattle.evm_text.specs.Numbers.{number, numbers}
+use Rattle.evm_script.specs.Words.{nums_max, is_name}
 
 -- equal words
 abbrev pub same_bytes : List ℕ → List ℕ → Bool
@@ -10,17 +11,6 @@ same_bytes = bytes_eq
 -- a word as a name
 abbrev pub name_of : List ℕ → Option (List ℕ)
 name_of word = if is_name word then Some word else None
-
--- one number before others, where all are numbers
-abbrev pub cons_number : Option ℤ → Option (List ℤ) → Option (List ℤ)
-cons_number None rest = None
-cons_number (Some n) None = None
-cons_number (Some n) (Some ns) = Some (n ∷ ns)
-
--- words as numbers, if each is one
-abbrev pub numbers : List (List ℕ) → Option (List ℤ)
-numbers [] = Some []
-numbers (word ∷ rest) = cons_number (number word) (numbers rest)
 
 -- one to twelve numbers
 abbrev pub some_numbers : Option (List ℤ) → Option (List ℤ)

@@ -1,7 +1,7 @@
 //! What follows `load` and `save`: a name, the form of a file, and the file.
 
 ghost use Rattle.std.specs.Prelude.{◌≡◌, map};
-ghost use Rattle.evm_script.specs.Words.{number};
+ghost use Rattle.evm_text.specs.Numbers.{number};
 ghost use Rattle.evm_script.specs.Files.{word_form, threshold_form, form_file, name_load, save_form, save_file, name_save};
 
 use super::files::{FileName, LoadForm, SaveForm};

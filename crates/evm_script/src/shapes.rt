@@ -2,14 +2,11 @@
 
 ghost use Rattle.std.specs.Prelude.{◌≡◌, ◌≤◌, ◌<◌, ◌^◌, map, IfSome, option_map, neg_ℤ, true, length};
 ghost use Rattle.std.specs.List.{list_all};
-ghost use Rattle.evm_script.specs.Shapes.{same_bytes, name_alone, name_number, name_two_numbers, name_three_numbers, name_numbers, two_names, two_numbers, three_numbers, number_numbers, numbers, some_numbers};
-ghost use Rattle.evm_script.specs.Words.{is_digit, is_digits, digits_value, digits, number, in_number_range};
+ghost use Rattle.evm_text.specs.Numbers.{number, numbers};
+ghost use Rattle.evm_script.specs.Shapes.{same_bytes, name_alone, name_number, name_two_numbers, name_three_numbers, name_numbers, two_names, two_numbers, three_numbers, number_numbers, some_numbers};
 
-use super::names::{Name, digit};
+use super::names::Name;
 use super::numbers::{NUMS_MAX, Num, Nums};
-
-/// The most digits of a number.
-const DIGITS_MAX: usize = 10;
 
 /// Whether a word has these letters.
 pub(crate) fn is(word: &[u8], letters: &str) -> bool
@@ -126,73 +123,11 @@ fn read_numbers(words: &[&[u8]]) -> Option<Nums>
 }
 
 /// A number: digits, with a minus sign before them or without.
-#[tactic(auto, unfolding(crate::specs::Words::number))]
 pub(crate) fn read_number(word: &[u8]) -> Option<Num>
     ensures { result ≡ number word.now }
 {
-    match word {
-        [b'-', digits @ ..] => minus(digits),
-        _ => plain(word),
-    }
-}
-
-/// The negative of a number without a sign.
-fn minus(word: &[u8]) -> Option<Num>
-    ensures { result ≡ option_map neg_ℤ (digits word.now) }
-{
-    match read_digits(word) {
-        Some(n) => Some(Num::within(-n)),
-        None => None,
-    }
-}
-
-/// A number without a sign.
-fn plain(word: &[u8]) -> Option<Num>
-    ensures { result ≡ digits word.now }
-{
-    match read_digits(word) {
+    match evm_text::read_number(word) {
         Some(n) => Some(Num::within(n)),
         None => None,
     }
-}
-
-/// The value of one to ten digits.
-#[tactic(auto, using(crate::proofs::Digits::range_pos, crate::proofs::Digits::range_neg))]
-fn read_digits(word: &[u8]) -> Option<i64>
-    ensures value { result ≡ digits word.now }
-    ensures range { IfSome result (λ n. (in_number_range n ≡ true) × (in_number_range (neg_ℤ n) ≡ true)) }
-{
-    if all_digits(word) {
-        Some(digits_sum(word) as i64)
-    } else {
-        None
-    }
-}
-
-/// Whether a word has one to ten digits and nothing else.
-fn all_digits(word: &[u8]) -> bool
-    ensures { result ≡ is_digits word.now }
-{
-    each_digit(word) & (1 <= word.len()) & (word.len() <= DIGITS_MAX)
-}
-
-/// Whether each byte is a digit.
-fn each_digit(word: &[u8]) -> bool
-    ensures { result ≡ list_all is_digit word.now }
-{
-    word.iter().all(|b| digit(*b))
-}
-
-/// The value of some digits.
-fn digits_sum(word: &[u8]) -> u64
-    requires few { length word.now ≤ 10 }
-    requires each { list_all is_digit word.now ≡ true }
-    ensures value { result ≡ digits_value word.now }
-    ensures small { result < 10 ^ 10 }
-{
-    let mut value: u64 = 0;
-    for b in word {
-        value = value * 10 + u64::from(*b - b'0');
-    }
-    value
 }

@@ -4,7 +4,8 @@ ghost use Rattle.std.specs.Prelude.{◌≡◌, ◌++◌, [], ◌∷◌, map, OnO
 ghost use Rattle.std.specs.List.{flat_map};
 ghost use Rattle.std.specs.Fmt.{signed_decimal};
 ghost use Rattle.evm_outside.specs.Shelves.{is_file_name};
-ghost use Rattle.evm_script.specs.Words.{is_name, in_number_range, keeps_nums};
+ghost use Rattle.evm_text.specs.Numbers.{in_number_range};
+ghost use Rattle.evm_script.specs.Words.{is_name, keeps_nums};
 ghost use Rattle.evm_script.specs.Printed.{spaced};
 
 use super::command::NoMemory;

@@ -2,7 +2,8 @@
 
 ghost use Rattle.std.specs.Prelude.{◌≡◌, ◌++◌, ◌∷◌, IfOk, OnOk, Some, Ok, codes, true};
 ghost use Rattle.evm_outside.specs.Shelves.{is_file_name};
-ghost use Rattle.evm_script.specs.Words.{words, is_name};
+ghost use Rattle.evm_text.specs.Words.{words};
+ghost use Rattle.evm_script.specs.Words.{is_name};
 ghost use Rattle.evm_script.specs.Formulas.{formula_of};
 ghost use Rattle.evm_script.specs.Line.{command as line_command};
 ghost use Rattle.evm_script.specs.Printed.{printed, spaced, formula_words, load_words, save_words, FormulaKeepsRules, FormKeepsRules, KeepsRules, IsReadAgain, IsFormulaAgain};

@@ -1,5 +1,5 @@
 use Rattle.std.proofs.Common.{◌++◌, ◌∙◌, ap, List, ℕ}
-use Rattle.evm_script.specs.Words.{words}
+use Rattle.evm_text.specs.Words.{words}
 use Rattle.evm_script.specs.Formulas.{formula_of}
 use Rattle.evm_script.specs.Printed.{spaced, formula_words}
 use Rattle.evm_script.proofs.FormulasAgain.{formula_again}
