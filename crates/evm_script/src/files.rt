@@ -5,29 +5,27 @@ ghost use Rattle.evm_outside.specs.Shelves.{is_file_name};
 
 use super::numbers::Num;
 use evm_outside::{FILE_NAME_MAX, is_file_name};
+use evm_text::InlineBytes;
 use std::marker::Model;
 
 /// A name of a file: 1 to 64 bytes, a letter from A to Z or a to z, a digit or an underscore, then
 /// these, dots or dashes; so never a path. It owns its bytes, in place, and takes no other memory.
 #[derive(Clone, Copy, Debug, PartialEq, Eq)]
 pub struct FileName {
-    bytes: [u8; FILE_NAME_MAX],
-    len: usize,
+    bytes: InlineBytes<FILE_NAME_MAX>,
 }
 
 impl Model for FileName {
-    ghost use Rattle.std.specs.Prelude.{List, ℕ};
-    ghost use Rattle.evm_script.specs.FileNameFields.{file_name_bytes, file_name_fields, file_name_back, IsFileNameInside};
+    ghost use Rattle.std.specs.Prelude.{List, ℕ, IsTrue};
+    ghost use Rattle.evm_outside.specs.Shelves.{is_file_name};
 
     ghost Value = { List ℕ };
 
-    ghost view = { file_name_bytes };
+    ghost view = { λ a. a.bytes };
 
-    ghost invariant = { IsFileNameInside };
+    ghost invariant = { λ a. IsTrue (is_file_name a.bytes) };
 
-    ghost inverse = { file_name_fields };
-
-    ghost inverse_ok = { file_name_back };
+    ghost inverse = { λ v. record { bytes = v } };
 }
 
 impl FileName {
@@ -35,22 +33,20 @@ impl FileName {
     pub fn of(bytes: &[u8]) -> Option<FileName>
         ensures { MatchOption result (is_file_name bytes.now ≡ false) (λ name. (is_file_name bytes.now ≡ true) × (name ≡ bytes.now)) }
     {
-        if !is_file_name(bytes) || bytes.len() > FILE_NAME_MAX {
+        if !is_file_name(bytes) {
             return None;
         }
-        let mut kept = [0u8; FILE_NAME_MAX];
-        kept[..bytes.len()].copy_from_slice(bytes);
-        Some(FileName {
-            bytes: kept,
-            len: bytes.len(),
-        })
+        match InlineBytes::of(bytes) {
+            Some(bytes) => Some(FileName { bytes }),
+            None => unreachable!(),
+        }
     }
 
     /// How many bytes it has: 1 to 64.
     pub fn len(&self) -> usize
         ensures { result ≡ length self.now }
     {
-        self.len
+        self.bytes.len()
     }
 
     /// The byte at an index below `len`.
@@ -58,7 +54,7 @@ impl FileName {
         requires { k < length self.now }
         ensures { result ≡ slice_index self.now k }
     {
-        self.bytes[k]
+        self.bytes()[k]
     }
 
     /// The bytes, which keep the rule of file names.
@@ -66,7 +62,7 @@ impl FileName {
         ensures value { result.now ≡ self.now }
         ensures rule { is_file_name self.now ≡ true }
     {
-        &self.bytes[..self.len]
+        self.bytes.bytes()
     }
 }
 

@@ -5,12 +5,14 @@
 //! without; zeros before it count for nothing. Nothing here copies a byte.
 #![tactic(auto)]
 
+mod inline;
 mod lines;
 mod numbers;
 #[cfg(test)]
 mod tests;
 mod words;
 
+pub use inline::InlineBytes;
 pub use lines::{first_line, without_cr};
 pub use numbers::{DIGITS_MAX, NUM_MAX, is_digit, read_number};
 pub use words::{first_word, is_blank, is_comment, words_of};

@@ -1,4 +1,4 @@
-use Rattle.std.proofs.Common.{List, ℕ, length, nat_eq, not, rules, tests}
+use Rattle.std.proofs.Common.{rules, tests}
 use Rattle.std.proofs.lemmas.Iterator.Consumers.{map_from_collect, YieldsList-from_filter, YieldsList-at}
 use Rattle.std.proofs.lemmas.Iterator.Splits.{YieldsList-from_slice_split}
 use Rattle.evm_text.specs.Words.{is_blank, is_filled, words}
