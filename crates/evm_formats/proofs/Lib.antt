@@ -14,3 +14,4 @@ pub mod Joins
 pub mod StackLaws
 pub mod FrameLaws
 pub mod VoxelFiles
+pub mod CellLaws

@@ -1,13 +1,10 @@
 -- What follows from the definitions of PGM stacks and Y4M videos.
-use Rattle.std.specs.Prelude.{◌≡◌, ℕ, ◌+◌, ◌*◌, ◌<◌, ◌≤◌, ◌⊎◌, not, true, false, ◌&&◌, Bool, List, [], ◌∷◌, ◌++◌, flat_map, length, Option, None, Some, Ok, Err, IfOk, pos, ℤ, codes}
+use Rattle.std.specs.Prelude.{◌≡◌, ℕ, ◌+◌, ◌*◌, ◌<◌, ◌≤◌, ◌⊎◌, not, true, false, ◌&&◌, ◌||◌, Bool, List, [], ◌∷◌, ◌++◌, flat_map, length, Option, None, Some, Ok, Err, IfOk, pos, ◌-ℤ◌, ℤ, codes}
 use Rattle.std.specs.List.{list_all}
-use Rattle.evm_cells.specs.Limits.{limit, IsCellSet}
-use Rattle.evm_cells.specs.Booleans.{or_cells}
-use Rattle.evm_cells.specs.Shapes.{shift}
-use Rattle.evm_cells.specs.Examples.{space}
+use Rattle.evm_cells.specs.Limits.{limit, cells_where, IsCellSet}
 use Rattle.evm_text.specs.Numbers.{is_digit, digits_value}
 use Rattle.evm_formats.specs.declared.voxels.VoxelError.TheVariants.{Kind, Short}
-use Rattle.evm_formats.specs.Images.{Picture, bytes_of, then_ok, cells_of_images}
+use Rattle.evm_formats.specs.Images.{Picture, bytes_of, then_ok, in_stack, cells_of_images}
 use Rattle.evm_formats.specs.Header.{is_white, is_end}
 use Rattle.evm_formats.specs.Pgm.{Shot, shot, image_at, are_numbers, in_range, is_shape, is_wide, images_from, pgm_cells}
 use Rattle.evm_formats.specs.Y4m.{Stream, stream, frames_of, y4m_cells}
@@ -102,6 +99,16 @@ StacksJoin = (front back : List ℕ) (w h : ℕ) (ps qs : List Picture) → IsSt
 abbrev pub StackCells : Type 0
 StackCells = (threshold : ℕ) (bytes : List ℕ) (w h : ℕ) (ps : List Picture) → IsStackOf bytes w h ps
     → pgm_cells 3 threshold bytes ≡ Ok (cells_of_images 3 threshold w h ps)
+
+-- a place, lowered along the axis of images
+abbrev pub lowered : ℕ → List ℤ → List ℤ
+lowered k (x ∷ y ∷ z ∷ []) = x ∷ y ∷ (z -ℤ pos k) ∷ []
+lowered k c = c
+
+-- the cells of images behind others are those of the first and, raised by their number, those of the second
+abbrev pub CellsJoin : Type 0
+CellsJoin = (threshold w h : ℕ) (ps qs : List Picture) → cells_of_images 3 threshold w h (ps ++ qs)
+    ≡ cells_where 3 (λ c. in_stack threshold w h ps c || in_stack threshold w h qs (lowered (length ps) c))
 
 -- ---- frames, one behind the other
 

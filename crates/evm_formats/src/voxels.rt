@@ -27,8 +27,8 @@
 
 ghost use Rattle.std.specs.Prelude.{◌≡◌};
 ghost use Rattle.evm_formats.specs.declared.voxels.VoxelError.TheVariants.{NoMemory};
-ghost use Rattle.evm_formats.specs.VoxelLaws.{HeaderStates, SamplesState, FewerAreShort, StacksJoin, StackCells, FramesJoin};
-ghost use Rattle.evm_formats.specs.VoxelLaws.{NeverKind, VoxelCellSets, ImageOfFour, StreamOfTwo};
+ghost use Rattle.evm_formats.specs.VoxelLaws.{HeaderStates, SamplesState, FewerAreShort, StacksJoin, StackCells, CellsJoin};
+ghost use Rattle.evm_formats.specs.VoxelLaws.{FramesJoin, NeverKind, VoxelCellSets, ImageOfFour, StreamOfTwo};
 
 use std::alloc::AllocError;
 use thiserror::Error;
@@ -87,6 +87,7 @@ pub enum Sampling {
 /// - `short`: a header with fewer bytes than its samples is refused for that.
 /// - `joined`: the bytes of two stacks of one size state the images of the first and then those of the second.
 /// - `cells`: a stack states the cells of its images.
+/// - `raised`: the cells of images behind others are those of the first and, raised by their number, those of the second.
 /// - `never_kind`: no stack is refused for a sampling.
 /// - `worked`: an image of two columns and two rows.
 pub fn stacks_state_images()
@@ -95,6 +96,7 @@ pub fn stacks_state_images()
     ensures short { FewerAreShort }
     ensures joined { StacksJoin }
     ensures cells { StackCells }
+    ensures raised { CellsJoin }
     ensures never_kind { NeverKind }
     ensures worked { ImageOfFour }
 {}

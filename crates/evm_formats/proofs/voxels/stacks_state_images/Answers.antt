@@ -1,5 +1,6 @@
 use Rattle.evm_formats.proofs.HeaderLaws.{header_states, samples_state, fewer_are_short}
 use Rattle.evm_formats.proofs.StackLaws.{stacks_join, stack_cells}
+use Rattle.evm_formats.proofs.CellLaws.{cells_join}
 use Rattle.evm_formats.proofs.PgmRefusals.{no_kind}
 use Rattle.evm_formats.proofs.VoxelFiles.{image_of_four}
 use Rattle.evm_formats.proofs.voxels.stacks_state_images.Goals as goal
@@ -24,3 +25,6 @@ returns-clause-never_kind c = no_kind
 
 pub returns-clause-worked : goal.returns-clause-worked
 returns-clause-worked c = image_of_four
+
+pub returns-clause-raised : goal.returns-clause-raised
+returns-clause-raised c = cells_join
