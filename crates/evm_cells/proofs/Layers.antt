@@ -22,7 +22,7 @@ use Rattle.evm_cells.proofs.Slices.{has-slice_of, coord, each-with_at, has-slice
 
 -- ---- lists made of layers
 
-rising_layers : (F : ℤ → List (List ℤ)) (xs : List ℤ) → rising int_lt xs ≡ true → ((x : ℤ) → rising before (F x) ≡ true) → rising before (flat_map (λ x. map (λ t. x ∷ t) (F x)) xs) ≡ true
+pub rising_layers : (F : ℤ → List (List ℤ)) (xs : List ℤ) → rising int_lt xs ≡ true → ((x : ℤ) → rising before (F x) ≡ true) → rising before (flat_map (λ x. map (λ t. x ∷ t) (F x)) xs) ≡ true
 unfolding rising
 rising_layers F [] a b = refl
 rising_layers F (x ∷ xs) a b =
@@ -37,7 +37,7 @@ rising_layers F (x ∷ xs) a b =
     (F x))
 
 -- a place in the layers: in that of its first number
-any_layers : (F : ℤ → List (List ℤ)) (xs : List ℤ) (a : ℤ) (c : List ℤ) → list_any (same (a ∷ c)) (flat_map (λ x. map (λ t. x ∷ t) (F x)) xs) ≡ (list_any (int_eq a) xs && list_any (same c) (F a))
+pub any_layers : (F : ℤ → List (List ℤ)) (xs : List ℤ) (a : ℤ) (c : List ℤ) → list_any (same (a ∷ c)) (flat_map (λ x. map (λ t. x ∷ t) (F x)) xs) ≡ (list_any (int_eq a) xs && list_any (same c) (F a))
 unfolding same each
 any_layers F xs a c =
     any-flat_map (each int_eq (a ∷ c)) (λ x. map (λ t. x ∷ t) (F x)) xs
@@ -49,7 +49,7 @@ any_layers F xs a c =
     at_layer x true e = ap (λ z. int_eq a x && list_any (each int_eq c) (F z)) (sym (eq_is a x e))
     at_layer x false e = ap (λ b. b && list_any (each int_eq c) (F x)) e ∙ ap (λ b. b && list_any (each int_eq c) (F a)) (sym e)
 
-any_layers_none : (F : ℤ → List (List ℤ)) (xs : List ℤ) → list_any (same []) (flat_map (λ x. map (λ t. x ∷ t) (F x)) xs) ≡ false
+pub any_layers_none : (F : ℤ → List (List ℤ)) (xs : List ℤ) → list_any (same []) (flat_map (λ x. map (λ t. x ∷ t) (F x)) xs) ≡ false
 unfolding same each
 any_layers_none F xs =
     any-flat_map (each int_eq []) (λ x. map (λ t. x ∷ t) (F x)) xs

@@ -13,5 +13,6 @@ pub mod HeaderLaws
 pub mod Joins
 pub mod StackLaws
 pub mod FrameLaws
+pub mod Listed
 pub mod VoxelFiles
 pub mod CellLaws

@@ -1,10 +1,11 @@
 -- What follows from the definitions of PGM stacks and Y4M videos.
-use Rattle.std.specs.Prelude.{◌≡◌, ℕ, ◌+◌, ◌*◌, ◌<◌, ◌≤◌, ◌⊎◌, not, true, false, ◌&&◌, ◌||◌, Bool, List, [], ◌∷◌, ◌++◌, flat_map, length, Option, None, Some, Ok, Err, IfOk, pos, ◌-ℤ◌, ℤ, codes}
+use Rattle.std.specs.Prelude.{◌≡◌, ℕ, ◌+◌, ◌*◌, ◌<◌, ◌≤◌, ◌⊎◌, not, true, false, ◌&&◌, ◌||◌, Bool, List, [], ◌∷◌, ◌++◌, flat_map, map, cond, length, int_le, Option, None, Some, Ok, Err, IfOk, pos, ◌-ℤ◌, ℤ, codes}
 use Rattle.std.specs.List.{list_all}
-use Rattle.evm_cells.specs.Limits.{limit, cells_where, IsCellSet}
+use Rattle.evm_cells.specs.Limits.{limit, ints, cells_where, IsCellSet}
+use Rattle.evm_cells.specs.Examples.{plane, space}
 use Rattle.evm_text.specs.Numbers.{is_digit, digits_value}
 use Rattle.evm_formats.specs.declared.voxels.VoxelError.TheVariants.{Kind, Short}
-use Rattle.evm_formats.specs.Images.{Picture, bytes_of, then_ok, in_stack, cells_of_images}
+use Rattle.evm_formats.specs.Images.{Picture, bytes_of, within, in_stack, cells_of_images}
 use Rattle.evm_formats.specs.Header.{is_white, is_end}
 use Rattle.evm_formats.specs.Pgm.{Shot, shot, image_at, are_numbers, in_range, is_shape, is_wide, images_from, pgm_cells}
 use Rattle.evm_formats.specs.Y4m.{Stream, stream, frames_of, y4m_cells}
@@ -100,6 +101,16 @@ abbrev pub StackCells : Type 0
 StackCells = (threshold : ℕ) (bytes : List ℕ) (w h : ℕ) (ps : List Picture) → IsStackOf bytes w h ps
     → pgm_cells 3 threshold bytes ≡ Ok (cells_of_images 3 threshold w h ps)
 
+-- the places from 0 up to, but not at, the sizes that pass a test, ascending
+unfoldable pub listed : List ℕ → (List ℤ → Bool) → List (List ℤ)
+listed [] f = cond (f []) ([] ∷ []) []
+listed (m ∷ ms) f = flat_map (λ x. map (λ t. x ∷ t) (listed ms (λ c. f (x ∷ c)))) (ints (pos 0) m)
+
+-- the cells within sizes that fit the limit can be listed place by place
+abbrev pub CellsListed : Type 0
+CellsListed = (n : ℕ) (ms : List ℕ) (test : List ℕ → Bool) → length ms ≡ n → list_all (λ m. int_le (pos m) (pos (limit n))) ms ≡ true
+    → cells_where n (within ms test) ≡ listed ms (within ms test)
+
 -- a place, lowered along the axis of images
 abbrev pub lowered : ℕ → List ℤ → List ℤ
 lowered k (x ∷ y ∷ z ∷ []) = x ∷ y ∷ (z -ℤ pos k) ∷ []
@@ -135,11 +146,15 @@ VoxelCellSets = (n threshold : ℕ) (bytes : List ℕ) → (n ≡ 2) ⊎ (n ≡ 
 -- ---- worked files
 
 -- an image of two columns and two rows, with a comment: its samples from the top are 0, 200 and 200, 0
+abbrev pub image_of_four : List ℕ
+image_of_four = codes "P5" ++ 10 ∷ codes "# scan" ++ 10 ∷ codes "2 2" ++ 10 ∷ codes "255" ++ 10 ∷ 0 ∷ 200 ∷ 200 ∷ 0 ∷ []
+
 abbrev pub ImageOfFour : Type 0
-ImageOfFour = image_at 2 0 None (codes "P5" ++ 10 ∷ codes "# scan" ++ 10 ∷ codes "2 2" ++ 10 ∷ codes "255" ++ 10 ∷ 0 ∷ 200 ∷ 200 ∷ 0 ∷ [])
-    ≡ Ok (record { width = 2; height = 2; picture = record { bytes = 0 ∷ 200 ∷ 200 ∷ 0 ∷ []; wide = false }; rest = [] })
+ImageOfFour = (pgm_cells 2 128 image_of_four ≡ Ok (plane 0 1 ∷ plane 1 0 ∷ [])) × (pgm_cells 2 200 image_of_four ≡ Ok (plane 0 1 ∷ plane 1 0 ∷ [])) × (pgm_cells 2 201 image_of_four ≡ Ok [])
 
 -- a stream of one column and one row, whose second frame has a parameter, and whose samples are 255 and 7
+abbrev pub stream_of_two : List ℕ
+stream_of_two = codes "YUV4MPEG2 W1 H1 F25:1" ++ 10 ∷ codes "FRAME" ++ 10 ∷ 255 ∷ 0 ∷ 0 ∷ codes "FRAME I" ++ 10 ∷ 7 ∷ 0 ∷ 0 ∷ []
+
 abbrev pub StreamOfTwo : Type 0
-StreamOfTwo = then_ok (stream 3 (codes "YUV4MPEG2 W1 H1 F25:1" ++ 10 ∷ codes "FRAME" ++ 10 ∷ 255 ∷ 0 ∷ 0 ∷ codes "FRAME I" ++ 10 ∷ 7 ∷ 0 ∷ 0 ∷ [])) (frames_of 3)
-    ≡ Ok (record { bytes = 255 ∷ []; wide = false } ∷ record { bytes = 7 ∷ []; wide = false } ∷ [])
+StreamOfTwo = (y4m_cells 3 7 stream_of_two ≡ Ok (space 0 0 0 ∷ space 0 0 1 ∷ [])) × (y4m_cells 3 8 stream_of_two ≡ Ok (space 0 0 0 ∷ []))

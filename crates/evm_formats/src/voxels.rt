@@ -27,7 +27,7 @@
 
 ghost use Rattle.std.specs.Prelude.{◌≡◌};
 ghost use Rattle.evm_formats.specs.declared.voxels.VoxelError.TheVariants.{NoMemory};
-ghost use Rattle.evm_formats.specs.VoxelLaws.{HeaderStates, SamplesState, FewerAreShort, StacksJoin, StackCells, CellsJoin};
+ghost use Rattle.evm_formats.specs.VoxelLaws.{HeaderStates, SamplesState, FewerAreShort, StacksJoin, StackCells, CellsJoin, CellsListed};
 ghost use Rattle.evm_formats.specs.VoxelLaws.{FramesJoin, NeverKind, VoxelCellSets, ImageOfFour, StreamOfTwo};
 
 use std::alloc::AllocError;
@@ -88,8 +88,9 @@ pub enum Sampling {
 /// - `joined`: the bytes of two stacks of one size state the images of the first and then those of the second.
 /// - `cells`: a stack states the cells of its images.
 /// - `raised`: the cells of images behind others are those of the first and, raised by their number, those of the second.
+/// - `listed`: the cells within sizes can be listed place by place, as the worked files are.
 /// - `never_kind`: no stack is refused for a sampling.
-/// - `worked`: an image of two columns and two rows.
+/// - `worked`: an image of two columns and two rows, at three thresholds.
 pub fn stacks_state_images()
     ensures header { HeaderStates }
     ensures samples { SamplesState }
@@ -97,6 +98,7 @@ pub fn stacks_state_images()
     ensures joined { StacksJoin }
     ensures cells { StackCells }
     ensures raised { CellsJoin }
+    ensures listed { CellsListed }
     ensures never_kind { NeverKind }
     ensures worked { ImageOfFour }
 {}
@@ -105,7 +107,7 @@ pub fn stacks_state_images()
 ///
 /// - `joined`: frames and then other frames, behind one first line, are the first and then the others.
 /// - `cell_sets`: the cells that a stream or a stack states are a cell set.
-/// - `worked`: a stream of two frames.
+/// - `worked`: a stream of two frames, at two thresholds.
 pub fn streams_state_frames()
     ensures joined { FramesJoin }
     ensures cell_sets { VoxelCellSets }

@@ -17,6 +17,7 @@ use Rattle.evm_cells.proofs.Coords.{any-ints, rising-ints, le_yes, lt_yes, le_is
 use Rattle.evm_cells.proofs.Places.{ascending-rising, has-any, rising_prefixed, before_first}
 use Rattle.evm_cells.proofs.Universe.{same_sets, has-evm, has-cells, odd-around, ascending-evm, ascending-filter, ascending-every_cell, all-every_cell, absorb, cell_from, point_from}
 use Rattle.evm_cells.proofs.Combine.{cell_set-filter}
+use Rattle.evm_cells.proofs.Layers.{rising_layers, any_layers, any_layers_none}
 use Rattle.evm_cells.proofs.Neighbours.{around-neighbours}
 use Rattle.evm_formats.specs.Images.{in_sizes}
 use Rattle.evm_voxels.specs.Parity.{turns, grid}
@@ -29,41 +30,6 @@ IsInside ms f = (c : List ℤ) → f c ≡ true → in_sizes ms c ≡ true
 abbrev pub VerticesOfGrid : Type 0
 VerticesOfGrid = (n : ℕ) (ms : List ℕ) (f : List ℤ → Bool) → length ms ≡ n → list_all (λ m. int_le (pos m) (pos (limit n))) ms ≡ true → IsInside ms f
     → grid ms (turns f) ≡ evm n (cells_where n f)
-
--- ---- lists made of layers
-rising_layers : (F : ℤ → List (List ℤ)) (xs : List ℤ) → rising int_lt xs ≡ true → ((x : ℤ) → rising before (F x) ≡ true) → rising before (flat_map (λ x. map (λ t. x ∷ t) (F x)) xs) ≡ true
-unfolding rising
-rising_layers F [] a b = refl
-rising_layers F (x ∷ xs) a b =
-    rising-append before (map (λ t. x ∷ t) (F x)) (flat_map (λ y. map (λ t. y ∷ t) (F y)) xs) (rising_prefixed x (F x) (b x))
-    (rising_layers F xs (and_second (list_all (int_lt x) xs) (rising int_lt xs) a) b)
-    (all-map (λ p. list_all (before p) (flat_map (λ y. map (λ t. y ∷ t) (F y)) xs)) (λ t. x ∷ t) (F x)
-    ∙ all_always (λ t. list_all (before (x ∷ t)) (flat_map (λ y. map (λ u. y ∷ u) (F y)) xs))
-    (λ t. all-flat_map (before (x ∷ t)) (λ y. map (λ u. y ∷ u) (F y)) xs
-    ∙ all_weaker (int_lt x) (λ y. list_all (before (x ∷ t)) (map (λ u. y ∷ u) (F y)))
-    (λ y l. all-map (before (x ∷ t)) (λ u. y ∷ u) (F y) ∙ all_always (λ u. before (x ∷ t) (y ∷ u)) (λ u. before_first x y t u l) (F y))
-    xs (and_first (list_all (int_lt x) xs) (rising int_lt xs) a))
-    (F x))
-
--- a place in the layers: in that of its first number
-any_layers : (F : ℤ → List (List ℤ)) (xs : List ℤ) (a : ℤ) (c : List ℤ) → list_any (same (a ∷ c)) (flat_map (λ x. map (λ t. x ∷ t) (F x)) xs) ≡ (list_any (int_eq a) xs && list_any (same c) (F a))
-unfolding same each
-any_layers F xs a c =
-    any-flat_map (each int_eq (a ∷ c)) (λ x. map (λ t. x ∷ t) (F x)) xs
-    ∙ any_same (λ x. list_any (each int_eq (a ∷ c)) (map (λ t. x ∷ t) (F x))) (λ x. int_eq a x && list_any (each int_eq c) (F a))
-    (λ x. any-map (each int_eq (a ∷ c)) (λ t. x ∷ t) (F x) ∙ any-and_left (int_eq a x) (each int_eq c) (F x) ∙ at_layer x (int_eq a x) refl) xs
-    ∙ any-and_right (int_eq a) (list_any (each int_eq c) (F a)) xs
-  where
-    at_layer : (x : ℤ) (b : Bool) → int_eq a x ≡ b → (int_eq a x && list_any (each int_eq c) (F x)) ≡ (int_eq a x && list_any (each int_eq c) (F a))
-    at_layer x true e = ap (λ z. int_eq a x && list_any (each int_eq c) (F z)) (sym (eq_is a x e))
-    at_layer x false e = ap (λ b. b && list_any (each int_eq c) (F x)) e ∙ ap (λ b. b && list_any (each int_eq c) (F a)) (sym e)
-
-any_layers_none : (F : ℤ → List (List ℤ)) (xs : List ℤ) → list_any (same []) (flat_map (λ x. map (λ t. x ∷ t) (F x)) xs) ≡ false
-unfolding same each
-any_layers_none F xs =
-    any-flat_map (each int_eq []) (λ x. map (λ t. x ∷ t) (F x)) xs
-    ∙ any_same (λ x. list_any (each int_eq []) (map (λ t. x ∷ t) (F x))) (λ x. false) (λ x. any-map (each int_eq []) (λ t. x ∷ t) (F x) ∙ any_never (F x)) xs
-    ∙ any_never xs
 
 -- ---- the parity as a sum over the neighbours
 pub turns-neighbours : (f : List ℤ → Bool) (p : List ℤ) → xsum f (neighbours p) ≡ turns f p

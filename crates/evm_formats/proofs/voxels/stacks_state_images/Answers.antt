@@ -2,7 +2,8 @@ use Rattle.evm_formats.proofs.HeaderLaws.{header_states, samples_state, fewer_ar
 use Rattle.evm_formats.proofs.StackLaws.{stacks_join, stack_cells}
 use Rattle.evm_formats.proofs.CellLaws.{cells_join}
 use Rattle.evm_formats.proofs.PgmRefusals.{no_kind}
-use Rattle.evm_formats.proofs.VoxelFiles.{image_of_four}
+use Rattle.evm_formats.proofs.VoxelFiles.{image_of_four_is}
+use Rattle.evm_formats.proofs.Listed.{cells_listed}
 use Rattle.evm_formats.proofs.voxels.stacks_state_images.Goals as goal
 
 pub returns-clause-header : goal.returns-clause-header
@@ -24,7 +25,10 @@ pub returns-clause-never_kind : goal.returns-clause-never_kind
 returns-clause-never_kind c = no_kind
 
 pub returns-clause-worked : goal.returns-clause-worked
-returns-clause-worked c = image_of_four
+returns-clause-worked c = image_of_four_is
 
 pub returns-clause-raised : goal.returns-clause-raised
 returns-clause-raised c = cells_join
+
+pub returns-clause-listed : goal.returns-clause-listed
+returns-clause-listed c = cells_listed
