@@ -11,6 +11,7 @@ use Rattle.evm_cells.specs.Limits.{ints}
 use Rattle.evm_rows.specs.Rows.{flat_of}
 use Rattle.evm_rows.proofs.BoxTests.{flat_of-append}
 use Rattle.evm_voxels.specs.declared.grid.Grid.{Grid}
+use Rattle.evm_formats.specs.VoxelLaws.{listed}
 use Rattle.evm_voxels.specs.Parity.{turns, grid, seam, edge}
 use Rattle.evm_voxels.specs.Marks.{bit_on}
 use Rattle.evm_voxels.specs.Grids.{filled_in}
@@ -128,12 +129,12 @@ one_place g z true = refl
 one_place g z false = refl
 
 places-line : (g : List ℤ → Bool) (a n : ℕ) → places (flat_map (λ y. g (y ∷ []) ∷ []) (ints (pos a) n)) a ≡ flat_map (λ z. map (λ t. z ∷ t) (grid [] (λ c. g (z ∷ c)))) (ints (pos a) n)
-unfolding places ints grid
+unfolding places ints listed
 places-line g a zero = refl
 places-line g a (suc n) = ap₂ (λ (s t : List (List ℤ)). s ++ t) (one_place g (pos a) (g (pos a ∷ []))) (places-line g (a + 1) n)
 
 pub places-table : (g : List ℤ → Bool) (m : ℕ) → places (table (m ∷ []) g) 0 ≡ grid (m ∷ []) g
-unfolding table grid
+unfolding table listed
 places-table g m = places-line g 0 (suc m)
 
 -- ---- the rows of a plane
@@ -167,7 +168,7 @@ planes-lines g d l (suc n) y e =
     drop_front xs ys m q = drop-append-le m xs ys (omega arith) ∙ ap (λ (t : List Bool). t ++ ys) (drop_all m xs (omega arith))
 
 pub planes-table : (g : List ℤ → Bool) (d h l n : ℕ) → l ≡ d + 1 → n ≡ h + 1 → planes l n 0 (table (h ∷ d ∷ []) g) ≡ grid (h ∷ d ∷ []) g
-unfolding table grid
+unfolding table listed
 planes-table g d h l n e f =
     ap (λ (m : ℕ). planes l m 0 (flat_map (λ y. table (d ∷ []) (λ c. g (y ∷ c))) (ints (pos 0) (suc h)))) (let q : n ≡ suc h = omega arith in q)
     ∙ planes-lines g d l (suc h) 0 (omega arith)
@@ -241,7 +242,7 @@ columns_more ms f n n' x rows out new i j h e r =
 
 pub columns_all : (g : Grid) (n : ℕ) (out : List ℤ) → n ≡ g.width + 1 → out ≡ columns (g.height ∷ g.depth ∷ []) (turns (filled_in g)) n
     → out ≡ [] ++ flat_of (map (λ t. [] ++ t) (grid (g.width ∷ g.height ∷ g.depth ∷ []) (turns (filled_in g))))
-unfolding columns grid
+unfolding columns listed
 columns_all g n out e h =
     h ∙ ap (λ (k : ℕ). columns (g.height ∷ g.depth ∷ []) (turns (filled_in g)) k) (let q : n ≡ suc g.width = omega arith in q)
     ∙ ap flat_of (sym (no_heads (grid (g.width ∷ g.height ∷ g.depth ∷ []) (turns (filled_in g)))))

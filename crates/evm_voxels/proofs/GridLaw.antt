@@ -17,9 +17,9 @@ use Rattle.evm_cells.proofs.Coords.{any-ints, rising-ints, le_yes, lt_yes, le_is
 use Rattle.evm_cells.proofs.Places.{ascending-rising, has-any, rising_prefixed, before_first}
 use Rattle.evm_cells.proofs.Universe.{same_sets, has-evm, has-cells, odd-around, ascending-evm, ascending-filter, ascending-every_cell, all-every_cell, absorb, cell_from, point_from}
 use Rattle.evm_cells.proofs.Combine.{cell_set-filter}
-use Rattle.evm_cells.proofs.Layers.{rising_layers, any_layers, any_layers_none}
 use Rattle.evm_cells.proofs.Neighbours.{around-neighbours}
 use Rattle.evm_formats.specs.Images.{in_sizes}
+use Rattle.evm_formats.proofs.Listed.{ascending-listed, has-listed, coords_in}
 use Rattle.evm_voxels.specs.Parity.{turns, grid}
 
 -- no place off the sizes passes
@@ -52,67 +52,24 @@ turns-none (x ∷ p) = ap₂ xor (turns-none p) (turns-none p) ∙ false-xor fal
 turns-no : (f : List ℤ → Bool) → ((c : List ℤ) → f c ≡ false) → (p : List ℤ) → turns f p ≡ false
 turns-no f e p = turns-same f (λ c. false) e p ∙ turns-none p
 
--- ---- the grid ascends, and has the points of the grid that pass
-pub on_sizes : List ℕ → List ℤ → Bool
-on_sizes [] [] = true
-on_sizes [] (x ∷ p) = false
-on_sizes (m ∷ ms) [] = false
-on_sizes (m ∷ ms) (x ∷ p) = (int_le (pos 0) x && int_lt x (pos 0 +ℤ pos (suc m))) && on_sizes ms p
-
-one_or_none : (b : Bool) → rising before (cond b ([] ∷ []) []) ≡ true
-unfolding rising
-one_or_none true = refl
-one_or_none false = refl
-
-rising-grid : (ms : List ℕ) (f : List ℤ → Bool) → rising before (grid ms f) ≡ true
-unfolding grid
-rising-grid [] f = one_or_none (f [])
-rising-grid (m ∷ ms) f = rising_layers (λ x. grid ms (λ c. f (x ∷ c))) (ints (pos 0) (suc m)) (rising-ints (pos 0) (suc m)) (λ x. rising-grid ms (λ c. f (x ∷ c)))
-
-pub ascending-grid : (ms : List ℕ) (f : List ℤ → Bool) → ascending (grid ms f) ≡ true
-ascending-grid ms f = ascending-rising (grid ms f) ∙ rising-grid ms f
-
-any_one : (b : Bool) → list_any (same []) (cond b ([] ∷ []) []) ≡ b
-unfolding same each
-any_one true = refl
-any_one false = refl
-
-any_one_not : (b : Bool) (x : ℤ) (p : List ℤ) → list_any (same (x ∷ p)) (cond b ([] ∷ []) []) ≡ false
-unfolding same each
-any_one_not true x p = refl
-any_one_not false x p = refl
-
-and_assoc3 : (a b c : Bool) → (a && (b && c)) ≡ ((a && b) && c)
-and_assoc3 true b c = refl
-and_assoc3 false b c = refl
-
-any-grid : (ms : List ℕ) (f : List ℤ → Bool) (p : List ℤ) → list_any (same p) (grid ms f) ≡ (on_sizes ms p && f p)
-unfolding grid on_sizes
-any-grid [] f [] = any_one (f [])
-any-grid [] f (x ∷ p) = any_one_not (f []) x p
-any-grid (m ∷ ms) f [] = any_layers_none (λ x. grid ms (λ c. f (x ∷ c))) (ints (pos 0) (suc m))
-any-grid (m ∷ ms) f (x ∷ p) =
-    any_layers (λ x'. grid ms (λ c. f (x' ∷ c))) (ints (pos 0) (suc m)) x p
-    ∙ ap₂ (λ a b. a && b) (any-ints x (pos 0) (suc m)) (any-grid ms (λ c. f (x ∷ c)) p)
-    ∙ and_assoc3 (int_le (pos 0) x && int_lt x (pos 0 +ℤ pos (suc m))) (on_sizes ms p) (f (x ∷ p))
-
-pub has-grid : (ms : List ℕ) (f : List ℤ → Bool) (p : List ℤ) → has (grid ms f) p ≡ (on_sizes ms p && f p)
-has-grid ms f p = has-any (grid ms f) p ∙ any-grid ms f p
+-- ---- the points on the grid
+abbrev pub on_sizes : List ℕ → List ℤ → Bool
+on_sizes ms p = in_sizes (map suc ms) p
 
 -- ---- no point off the grid has an odd parity
-next_in : (x : ℤ) (m : ℕ) → (int_le (pos 0) x && int_lt x (pos 0 +ℤ pos (suc m))) ≡ false → (int_le (pos 0) (x -ℤ pos 1) && int_lt (x -ℤ pos 1) (pos m)) ≡ false
+next_in : (x : ℤ) (m : ℕ) → (int_le (pos 0) x && int_lt x (pos (suc m))) ≡ false → (int_le (pos 0) (x -ℤ pos 1) && int_lt (x -ℤ pos 1) (pos m)) ≡ false
 next_in x m e =
     refuted (int_le (pos 0) (x -ℤ pos 1) && int_lt (x -ℤ pos 1) (pos m))
     (λ h. let a : pos 0 ≤ℤ (x -ℤ pos 1) = le_is (pos 0) (x -ℤ pos 1) (and_first (int_le (pos 0) (x -ℤ pos 1)) (int_lt (x -ℤ pos 1) (pos m)) h) in
     let b : (x -ℤ pos 1) <ℤ pos m = lt_is (x -ℤ pos 1) (pos m) (and_second (int_le (pos 0) (x -ℤ pos 1)) (int_lt (x -ℤ pos 1) (pos m)) h) in
-    true≢false (sym (and_both (int_le (pos 0) x) (int_lt x (pos 0 +ℤ pos (suc m))) (le_yes (pos 0) x (omega (arith, int_facts))) (lt_yes x (pos 0 +ℤ pos (suc m)) (omega (arith, int_facts)))) ∙ e))
+    true≢false (sym (and_both (int_le (pos 0) x) (int_lt x (pos (suc m))) (le_yes (pos 0) x (omega (arith, int_facts))) (lt_yes x (pos (suc m)) (omega (arith, int_facts)))) ∙ e))
 
-this_in : (x : ℤ) (m : ℕ) → (int_le (pos 0) x && int_lt x (pos 0 +ℤ pos (suc m))) ≡ false → (int_le (pos 0) x && int_lt x (pos m)) ≡ false
+this_in : (x : ℤ) (m : ℕ) → (int_le (pos 0) x && int_lt x (pos (suc m))) ≡ false → (int_le (pos 0) x && int_lt x (pos m)) ≡ false
 this_in x m e =
     refuted (int_le (pos 0) x && int_lt x (pos m))
     (λ h. let a : pos 0 ≤ℤ x = le_is (pos 0) x (and_first (int_le (pos 0) x) (int_lt x (pos m)) h) in
     let b : x <ℤ pos m = lt_is x (pos m) (and_second (int_le (pos 0) x) (int_lt x (pos m)) h) in
-    true≢false (sym (and_both (int_le (pos 0) x) (int_lt x (pos 0 +ℤ pos (suc m))) (le_yes (pos 0) x (omega (arith, int_facts))) (lt_yes x (pos 0 +ℤ pos (suc m)) (omega (arith, int_facts)))) ∙ e))
+    true≢false (sym (and_both (int_le (pos 0) x) (int_lt x (pos (suc m))) (le_yes (pos 0) x (omega (arith, int_facts))) (lt_yes x (pos (suc m)) (omega (arith, int_facts)))) ∙ e))
 
 -- a plane that is out of the grid has no filled cell
 out_of : (m : ℕ) (ms : List ℕ) (f : List ℤ → Bool) → IsInside (m ∷ ms) f → (y : ℤ) → (int_le (pos 0) y && int_lt y (pos m)) ≡ false → (c : List ℤ) → f (y ∷ c) ≡ false
@@ -124,16 +81,16 @@ unfolding in_sizes
 within m ms f h y c k = and_second (int_le (pos 0) y && int_lt y (pos m)) (in_sizes ms c) (h (y ∷ c) k)
 
 pub turns_outside : (ms : List ℕ) (f : List ℤ → Bool) (p : List ℤ) → IsInside ms f → on_sizes ms p ≡ false → turns f p ≡ false
-unfolding on_sizes turns in_sizes
+unfolding turns in_sizes
 turns_outside [] f [] h e = absurd (true≢false e)
 turns_outside [] f (x ∷ p) h e =
     ap₂ xor (turns-no (λ c. f ((x -ℤ pos 1) ∷ c)) (λ c. refuted (f ((x -ℤ pos 1) ∷ c)) (λ k. false≢true (h ((x -ℤ pos 1) ∷ c) k))) p)
     (turns-no (λ c. f (x ∷ c)) (λ c. refuted (f (x ∷ c)) (λ k. false≢true (h (x ∷ c) k))) p)
     ∙ false-xor false
 turns_outside (m ∷ ms) f [] h e = refuted (f []) (λ k. false≢true (h [] k))
-turns_outside (m ∷ ms) f (x ∷ p) h e = at_test (int_le (pos 0) x && int_lt x (pos 0 +ℤ pos (suc m))) refl (turns_outside ms (λ c. f ((x -ℤ pos 1) ∷ c)) p) (turns_outside ms (λ c. f (x ∷ c)) p)
+turns_outside (m ∷ ms) f (x ∷ p) h e = at_test (int_le (pos 0) x && int_lt x (pos (suc m))) refl (turns_outside ms (λ c. f ((x -ℤ pos 1) ∷ c)) p) (turns_outside ms (λ c. f (x ∷ c)) p)
   where
-    at_test : (b : Bool) → (int_le (pos 0) x && int_lt x (pos 0 +ℤ pos (suc m))) ≡ b
+    at_test : (b : Bool) → (int_le (pos 0) x && int_lt x (pos (suc m))) ≡ b
         → (IsInside ms (λ c. f ((x -ℤ pos 1) ∷ c)) → on_sizes ms p ≡ false → turns (λ c. f ((x -ℤ pos 1) ∷ c)) p ≡ false)
         → (IsInside ms (λ c. f (x ∷ c)) → on_sizes ms p ≡ false → turns (λ c. f (x ∷ c)) p ≡ false)
         → xor (turns (λ c. f ((x -ℤ pos 1) ∷ c)) p) (turns (λ c. f (x ∷ c)) p) ≡ false
@@ -147,37 +104,24 @@ turns_outside (m ∷ ms) f (x ∷ p) h e = at_test (int_le (pos 0) x && int_lt x
 abbrev size_fits : ℕ → ℕ → Bool
 size_fits n m = int_le (pos m) (pos (limit n))
 
-cell_coords_in : (n : ℕ) (ms : List ℕ) (c : List ℤ) → list_all (size_fits n) ms ≡ true → in_sizes ms c ≡ true → (length c ≡ length ms) × (list_all (is_cell_coord n) c ≡ true)
-unfolding in_sizes
-cell_coords_in n [] [] a h = (refl, refl)
-cell_coords_in n [] (x ∷ c) a h = absurd (false≢true h)
-cell_coords_in n (m ∷ ms) [] a h = absurd (false≢true h)
-cell_coords_in n (m ∷ ms) (x ∷ c) a h =
-    let k = and_first (int_le (pos 0) x && int_lt x (pos m)) (in_sizes ms c) h in
-    let (l, b) = cell_coords_in n ms c (and_second (int_le (pos m) (pos (limit n))) (list_all (size_fits n) ms) a) (and_second (int_le (pos 0) x && int_lt x (pos m)) (in_sizes ms c) h) in
-    let u : pos 0 ≤ℤ x = le_is (pos 0) x (and_first (int_le (pos 0) x) (int_lt x (pos m)) k) in
-    let v : x <ℤ pos m = lt_is x (pos m) (and_second (int_le (pos 0) x) (int_lt x (pos m)) k) in
-    let w : pos m ≤ℤ pos (limit n) = le_is (pos m) (pos (limit n)) (and_first (int_le (pos m) (pos (limit n))) (list_all (size_fits n) ms) a) in
-    (ap suc l, and_both (is_cell_coord n x) (list_all (is_cell_coord n) c) (cell_yes n x (omega (arith, int_facts)) (omega (arith, int_facts))) b)
-
 point_coords_on : (n : ℕ) (ms : List ℕ) (p : List ℤ) → list_all (size_fits n) ms ≡ true → on_sizes ms p ≡ true → (length p ≡ length ms) × (list_all (is_point_coord n) p ≡ true)
-unfolding on_sizes
+unfolding in_sizes
 point_coords_on n [] [] a h = (refl, refl)
 point_coords_on n [] (x ∷ c) a h = absurd (false≢true h)
 point_coords_on n (m ∷ ms) [] a h = absurd (false≢true h)
 point_coords_on n (m ∷ ms) (x ∷ c) a h =
-    let k = and_first (int_le (pos 0) x && int_lt x (pos 0 +ℤ pos (suc m))) (on_sizes ms c) h in
-    let (l, b) = point_coords_on n ms c (and_second (int_le (pos m) (pos (limit n))) (list_all (size_fits n) ms) a) (and_second (int_le (pos 0) x && int_lt x (pos 0 +ℤ pos (suc m))) (on_sizes ms c) h) in
-    let u : pos 0 ≤ℤ x = le_is (pos 0) x (and_first (int_le (pos 0) x) (int_lt x (pos 0 +ℤ pos (suc m))) k) in
-    let v : x <ℤ (pos 0 +ℤ pos (suc m)) = lt_is x (pos 0 +ℤ pos (suc m)) (and_second (int_le (pos 0) x) (int_lt x (pos 0 +ℤ pos (suc m))) k) in
+    let k = and_first (int_le (pos 0) x && int_lt x (pos (suc m))) (on_sizes ms c) h in
+    let (l, b) = point_coords_on n ms c (and_second (int_le (pos m) (pos (limit n))) (list_all (size_fits n) ms) a) (and_second (int_le (pos 0) x && int_lt x (pos (suc m))) (on_sizes ms c) h) in
+    let u : pos 0 ≤ℤ x = le_is (pos 0) x (and_first (int_le (pos 0) x) (int_lt x (pos (suc m))) k) in
+    let v : x <ℤ (pos (suc m)) = lt_is x (pos (suc m)) (and_second (int_le (pos 0) x) (int_lt x (pos (suc m))) k) in
     let w : pos m ≤ℤ pos (limit n) = le_is (pos m) (pos (limit n)) (and_first (int_le (pos m) (pos (limit n))) (list_all (size_fits n) ms) a) in
     (ap suc l, and_both (is_point_coord n x) (list_all (is_point_coord n) c) (point_yes n x (omega (arith, int_facts)) (omega (arith, int_facts))) b)
 
 -- ---- the law
 pub vertices-grid : VerticesOfGrid
 vertices-grid n ms f l a h =
-    same_sets (grid ms (turns f)) (evm n (cells_where n f)) (ascending-grid ms (turns f)) (ascending-evm n (cells_where n f))
-    (λ p. has-grid ms (turns f) p ∙ absorb (on_sizes ms p) (turns f p) (on p)
+    same_sets (grid ms (turns f)) (evm n (cells_where n f)) (ascending-listed (map suc ms) (turns f)) (ascending-evm n (cells_where n f))
+    (λ p. has-listed (map suc ms) (turns f) p ∙ absorb (on_sizes ms p) (turns f p) (on p)
     ∙ sym (absorb (is_point n p) (turns f p) (λ k. point_of p (on p k)))
     ∙ ap (λ b. is_point n p && b) (sym (parity p))
     ∙ sym (has-evm n (cells_where n f) p))
@@ -186,7 +130,7 @@ vertices-grid n ms f l a h =
     cells_of = cell_set-filter n f
 
     filled : (c : List ℤ) → has (cells_where n f) c ≡ f c
-    filled c = has-cells n f c ∙ absorb (is_cell n c) (f c) (λ k. let (e, b) = cell_coords_in n ms c a (h c k) in cell_from n c (e ∙ l) b)
+    filled c = has-cells n f c ∙ absorb (is_cell n c) (f c) (λ k. let (e, b) = coords_in n ms c a (h c k) in cell_from n c (e ∙ l) b)
 
     parity : (p : List ℤ) → xsum (λ s. each touch s p) (cells_where n f) ≡ turns f p
     parity p =

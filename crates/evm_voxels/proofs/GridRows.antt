@@ -9,6 +9,7 @@ use Rattle.evm_cells.proofs.Coords.{le_yes}
 use Rattle.evm_rows.specs.Rows.{flat_of}
 use Rattle.evm_voxels.specs.declared.grid.Grid.{Grid}
 use Rattle.evm_formats.specs.Images.{nat_of, in_sizes, within, of_three}
+use Rattle.evm_formats.specs.VoxelLaws.{listed}
 use Rattle.evm_voxels.specs.Parity.{turns, grid, seam, edge}
 use Rattle.evm_voxels.specs.Marks.{marked_at}
 use Rattle.evm_voxels.specs.Grids.{filled_in, filled_flat}
@@ -68,7 +69,7 @@ flat_turns g x z e =
     ∙ sym (turns-seam (filled_flat g) x (z ∷ []) ∙ turns_one (seam (filled_flat g) x) z)
 
 line_same : (d : ℕ) (f h : List ℤ → Bool) → ((z : ℤ) → f (z ∷ []) ≡ h (z ∷ [])) → grid (d ∷ []) f ≡ grid (d ∷ []) h
-unfolding grid
+unfolding listed
 line_same d f h e = ap (λ (t : ℤ → Bool). flat_map (λ z. map (λ r. z ∷ r) (cond (t z) ([] ∷ []) [])) (ints (pos 0) (suc d))) (λ i z. e z i)
 
 -- the points of a line of one image

@@ -8,6 +8,7 @@ use mir.Val.{SFits}
 use Rattle.evm_cells.specs.Limits.{ints}
 use Rattle.evm_rows.specs.Rows.{flat_of}
 use Rattle.evm_rows.proofs.BoxTests.{flat_of-append}
+use Rattle.evm_formats.specs.VoxelLaws.{listed}
 use Rattle.evm_voxels.specs.Parity.{grid}
 
 -- the rows of the first n layers, each with its number in front
@@ -37,7 +38,7 @@ unfolding layers
 layers-more ms f n = flat_map-more (λ x. map (λ t. x ∷ t) (grid ms (λ c. f (x ∷ c)))) n
 
 pub layers_whole : (m : ℕ) (ms : List ℕ) (f : List ℤ → Bool) (n : ℕ) → n ≡ m + 1 → layers ms f n ≡ grid (m ∷ ms) f
-unfolding layers grid
+unfolding layers listed
 layers_whole m ms f n e = ap (λ (k : ℕ). flat_map (λ x. map (λ t. x ∷ t) (grid ms (λ c. f (x ∷ c)))) (ints (pos 0) k)) (let q : n ≡ suc m = omega arith in q)
 
 with_heads : (head : List ℤ) (a : ℤ) (V : List (List ℤ)) → map (λ t. head ++ t) (map (λ t. a ∷ t) V) ≡ map (λ t. (head ++ a ∷ []) ++ t) V
@@ -71,7 +72,7 @@ last_row on false longer e = ap (λ (c : Bool). cond c longer []) e
 
 pub row_step : (f : List ℤ → Bool) (n : ℕ) (on : Bool) (head longer base out new : List ℤ) → out ≡ base ++ flat_of (map (λ t. head ++ t) (layers [] f n))
     → on ≡ f (pos n ∷ []) → longer ≡ head ++ pos n ∷ [] → new ≡ out ++ cond on longer [] → new ≡ base ++ flat_of (map (λ t. head ++ t) (layers [] f (n + 1)))
-unfolding grid
+unfolding listed
 row_step f n on head longer base out new h b l e =
     layers_step [] f n head longer base out new h l (e ∙ ap (λ (t : List ℤ). out ++ t) (last_row on (f (pos n ∷ [])) longer b))
 

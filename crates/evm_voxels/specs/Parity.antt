@@ -1,7 +1,7 @@
 -- Parities round the points of a grid, by differences of neighbouring places.
 use Rattle.std.specs.Prelude.{ℕ, suc, Bool, cond, List, [], ◌∷◌, map, flat_map, ℤ, pos, ◌-ℤ◌}
 use Rattle.evm_cells.specs.Booleans.{xor}
-use Rattle.evm_cells.specs.Limits.{ints}
+use Rattle.evm_formats.specs.VoxelLaws.{listed}
 
 -- the exclusive or of a test over the places that a point touches: on each axis its coordinate, or one less
 unfoldable pub turns : (List ℤ → Bool) → List ℤ → Bool
@@ -9,9 +9,8 @@ turns f [] = f []
 turns f (x ∷ p) = xor (turns (λ c. f ((x -ℤ pos 1) ∷ c)) p) (turns (λ c. f (x ∷ c)) p)
 
 -- the points from 0 up to, and at, the sizes that pass a test, ascending
-unfoldable pub grid : List ℕ → (List ℤ → Bool) → List (List ℤ)
-grid [] f = cond (f []) ([] ∷ []) []
-grid (m ∷ ms) f = flat_map (λ x. map (λ t. x ∷ t) (grid ms (λ c. f (x ∷ c)))) (ints (pos 0) (suc m))
+abbrev pub grid : List ℕ → (List ℤ → Bool) → List (List ℤ)
+grid ms f = listed (map suc ms) f
 
 -- whether the test differs between column x and the column before
 unfoldable pub seam : (List ℤ → Bool) → ℤ → List ℤ → Bool
