@@ -1,5 +1,5 @@
 -- Frames of a stream, one behind the other.
-use Rattle.std.proofs.Common.{◌≡◌, ℕ, zero, suc, ◌+◌, ◌*◌, ◌≤◌, ◌<◌, ◌==◌, nat_le, nat_lt, Bool, true, false, cond, ◌&&◌, ◌||◌, List, [], ◌∷◌, ◌++◌, length, take, drop, Option, Some, None, Ok, Err, refl, sym, ap, ap₂, ◌∙◌, arith, length-append}
+use Rattle.std.proofs.Common.{◌≡◌, ℕ, ◌+◌, ◌*◌, ◌≤◌, ◌<◌, ◌==◌, nat_le, nat_lt, Bool, true, false, cond, ◌||◌, List, [], ◌∷◌, ◌++◌, length, take, drop, Option, Some, None, Ok, Err, refl, sym, ap, ap₂, ◌∙◌, arith, length-append}
 use Rattle.std.specs.Prelude.{Result, option_map, nat_eq, codes}
 use Rattle.std.specs.List.{starts_with}
 use Rattle.std.proofs.lemmas.Bool.Decides.{nat_tests}
@@ -7,10 +7,10 @@ use Rattle.std.proofs.lemmas.List.{take-append-le, drop-append-le}
 use Rattle.evm_cells.specs.Limits.{limit}
 use Rattle.evm_cells.proofs.Xor.{and_first, and_second, and_both}
 use Rattle.evm_formats.specs.declared.voxels.VoxelError.{VoxelError}
-use Rattle.evm_formats.specs.declared.voxels.VoxelError.TheVariants.{Header, Shape, Range, Short}
+use Rattle.evm_formats.specs.declared.voxels.VoxelError.TheVariants.{Shape, Range, Short}
 use Rattle.evm_formats.specs.Images.{Picture, Taken, Takes, then_ok, all_images}
 use Rattle.evm_formats.specs.Y4m.{Stream, cut_at, after_frame, planes_of, planes_at, frame_at, none_missing, frames_of}
-use Rattle.evm_formats.specs.VoxelLaws.{frames_in, FramesJoin}
+use Rattle.evm_formats.specs.VoxelLaws.{FramesJoin}
 use Rattle.evm_formats.proofs.Lengths.{frames-take}
 use Rattle.evm_formats.proofs.Joins.{Extends, Renumbers, all-join, all-renumber}
 

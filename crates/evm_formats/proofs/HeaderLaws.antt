@@ -1,17 +1,15 @@
 -- A header states its numbers, however it is written, and whatever follows.
-use Rattle.std.proofs.Common.{◌≡◌, ℕ, zero, suc, ◌+◌, ◌*◌, ◌≤◌, ◌<◌, ◌==◌, nat_le, Bool, true, false, not, cond, ◌&&◌, ◌||◌, List, [], ◌∷◌, ◌++◌, flat_map, length, take, drop, Option, Some, None, Ok, Err, refl, sym, ap, ap₂, subst, ◌∙◌, arith, append_assoc, length-append}
-use Rattle.std.specs.Prelude.{Result, option_and_then}
+use Rattle.std.proofs.Common.{◌≡◌, ℕ, ◌*◌, ◌≤◌, ◌==◌, nat_le, Bool, true, false, not, cond, ◌&&◌, ◌||◌, List, [], ◌∷◌, ◌++◌, length, Some, None, Ok, refl, sym, ap, ap₂, ◌∙◌, arith, append_assoc, length-append}
+use Rattle.std.specs.Prelude.{option_and_then}
 use Rattle.std.specs.List.{list_all}
 use Rattle.std.proofs.lemmas.Bool.Decides.{nat_tests}
-use Rattle.std.proofs.lemmas.List.{take-append-le, drop-append-le, take_all, drop_at, take_at}
+use Rattle.std.proofs.lemmas.List.{drop_at, take_at}
 use Rattle.evm_cells.proofs.Xor.{and_first, and_second}
 use Rattle.evm_text.specs.Numbers.{is_digit, digits_value}
-use Rattle.evm_formats.specs.declared.voxels.VoxelError.{VoxelError}
-use Rattle.evm_formats.specs.declared.voxels.VoxelError.TheVariants.{Magic, Header, Shape, Range, Short}
-use Rattle.evm_formats.specs.Images.{Picture, bytes_of}
-use Rattle.evm_formats.specs.Header.{is_white, is_end, is_blank, begins, after_blank, digits, after_digits, spaced_number, Fields, ended, maxval_and_end, height_on, fields}
-use Rattle.evm_formats.specs.Pgm.{Shot, shot, image_at, is_magic, are_numbers, in_range, is_shape, is_wide}
-use Rattle.evm_formats.specs.VoxelLaws.{Piece, White, Comment, piece_bytes, is_piece, bytes_of_pieces, Spaced, spaced_bytes, spaced_value, IsSpaced, header_bytes, IsHeader, HeaderStates, AreTaken, SamplesState, FewerAreShort}
+use Rattle.evm_formats.specs.Images.{bytes_of}
+use Rattle.evm_formats.specs.Header.{is_white, is_end, is_blank, begins, after_blank, digits, after_digits, spaced_number, ended, maxval_and_end, height_on, fields}
+use Rattle.evm_formats.specs.Pgm.{shot, image_at, is_wide}
+use Rattle.evm_formats.specs.VoxelLaws.{Piece, White, Comment, piece_bytes, is_piece, bytes_of_pieces, Spaced, spaced_bytes, spaced_value, IsSpaced, IsHeader, HeaderStates, SamplesState, FewerAreShort}
 
 -- ---- pieces of a separator
 

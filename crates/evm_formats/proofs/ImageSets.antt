@@ -7,7 +7,6 @@ use Rattle.evm_cells.proofs.Xor.{and_first, and_second}
 use Rattle.evm_cells.proofs.Order.{refuted}
 use Rattle.evm_cells.proofs.Coords.{le_is, lt_is}
 use Rattle.evm_cells.proofs.Combine.{cell_set-filter}
-use Rattle.evm_formats.specs.declared.voxels.VoxelError.{VoxelError}
 use Rattle.evm_formats.specs.Images.{Picture, at_least, nat_of, in_sizes, within, of_three, in_image, in_stack, cells_of_images, map_ok, then_ok}
 use Rattle.evm_formats.specs.Pgm.{image_at, images_from, shot_cells, pgm_cells}
 use Rattle.evm_formats.specs.Y4m.{stream, frames_of, stream_cells, y4m_cells}

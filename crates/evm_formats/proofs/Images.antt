@@ -1,5 +1,5 @@
 -- Images one after another: the next one, the end, and what does not depend on how many there may be.
-use Rattle.std.proofs.Common.{◌≡◌, ℕ, zero, suc, ◌+◌, ◌≤◌, ◌<◌, List, [], ◌∷◌, ◌++◌, length, Ok, Err, refl, sym, ap, ◌∙◌, arith, append_assoc, append-nil, length-append}
+use Rattle.std.proofs.Common.{◌≡◌, ℕ, zero, suc, ◌+◌, ◌≤◌, ◌<◌, List, [], ◌∷◌, length, Ok, Err, refl, ap, ◌∙◌, arith}
 use Rattle.std.specs.Prelude.{Result}
 use Rattle.evm_formats.specs.declared.voxels.VoxelError.{VoxelError}
 use Rattle.evm_formats.specs.Images.{Picture, Taken, Takes, map_ok, then_ok, images_within, all_images}

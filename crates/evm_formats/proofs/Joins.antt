@@ -1,20 +1,13 @@
 -- Images behind images: what follows does not change what stands before, nor do numbers that are within the limit.
-use Rattle.std.proofs.Common.{◌≡◌, ℕ, zero, suc, ◌+◌, ◌*◌, ◌≤◌, ◌<◌, ◌==◌, nat_le, nat_lt, Bool, true, false, not, cond, ◌&&◌, ◌||◌, List, [], ◌∷◌, ◌++◌, length, take, drop, Option, Some, None, Ok, Err, refl, sym, ap, ap₂, subst, ◌∙◌, arith, length-append, append-nil}
-use Rattle.std.specs.Prelude.{Result, option_and_then, option_map, nat_eq, codes}
-use Rattle.std.specs.List.{starts_with}
-use Rattle.std.proofs.lemmas.Bool.Decides.{nat_tests}
-use Rattle.std.proofs.lemmas.List.{take-append-le, drop-append-le}
-use Rattle.evm_cells.specs.Limits.{limit}
-use Rattle.evm_cells.proofs.Xor.{and_first, and_second, and_both}
+use Rattle.std.proofs.Common.{◌≡◌, ℕ, zero, suc, ◌+◌, ◌≤◌, ◌<◌, ◌==◌, Bool, true, false, not, cond, ◌&&◌, List, [], ◌∷◌, ◌++◌, length, Option, Some, None, Ok, Err, refl, sym, ap, ap₂, ◌∙◌, arith}
+use Rattle.std.specs.Prelude.{Result, option_and_then}
+use Rattle.evm_cells.proofs.Xor.{and_first, and_second}
 use Rattle.evm_text.specs.Numbers.{is_digit, digits_value}
 use Rattle.evm_formats.specs.declared.voxels.VoxelError.{VoxelError}
-use Rattle.evm_formats.specs.declared.voxels.VoxelError.TheVariants.{Magic, Header, Shape, Range, Short}
-use Rattle.evm_formats.specs.Images.{Picture, Taken, Takes, bytes_of, map_ok, then_ok, images_within, all_images, cells_of_images}
+use Rattle.evm_formats.specs.Images.{Picture, Taken, Takes, map_ok, all_images}
 use Rattle.evm_formats.specs.Header.{is_white, is_end, is_blank, begins, after_blank, digits, after_digits, spaced_number, Fields, ended, maxval_and_end, height_on, fields}
-use Rattle.evm_formats.specs.Pgm.{Shot, shot, image_at, is_magic, are_numbers, in_range, is_shape, is_wide, after_white, taken, later_image, images_from, shot_cells, pgm_cells}
-use Rattle.evm_formats.specs.VoxelLaws.{IsStackOf, StacksJoin, StackCells}
 use Rattle.evm_formats.proofs.Images.{TakesBytes, all-end, all-next, all-refused}
-use Rattle.evm_formats.proofs.Lengths.{then_some, ok_found, later-takes, image_takes}
+use Rattle.evm_formats.proofs.Lengths.{then_some, ok_found}
 
 -- ---- images one after another
 

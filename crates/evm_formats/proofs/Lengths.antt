@@ -1,5 +1,5 @@
 -- How many bytes an image or a frame takes: those of its samples, and more.
-use Rattle.std.proofs.Common.{◌≡◌, ℕ, zero, suc, ◌+◌, ◌*◌, ◌≤◌, ◌<◌, ◌==◌, nat_le, nat_lt, Bool, true, false, not, cond, ◌&&◌, ◌||◌, List, [], ◌∷◌, length, take, drop, Option, Some, None, Ok, Err, refl, sym, ap, subst, ◌∙◌, arith, length-drop}
+use Rattle.std.proofs.Common.{◌≡◌, ℕ, ◌+◌, ◌*◌, ◌≤◌, ◌<◌, ◌==◌, nat_le, nat_lt, Bool, true, false, not, cond, ◌&&◌, ◌||◌, List, [], ◌∷◌, length, take, drop, Option, Some, None, Ok, Err, refl, ap, subst, arith, length-drop}
 use Rattle.std.specs.Prelude.{Result, option_and_then, option_map, nat_eq, codes}
 use Rattle.std.specs.List.{starts_with}
 use Rattle.std.proofs.lemmas.Bool.Decides.{nat_tests}
@@ -9,7 +9,7 @@ use Rattle.evm_formats.specs.declared.voxels.VoxelError.TheVariants.{Magic, Head
 use Rattle.evm_formats.specs.Images.{Taken, bytes_of, map_ok}
 use Rattle.evm_text.specs.Numbers.{is_digit, digits_value}
 use Rattle.evm_formats.specs.Header.{is_white, is_end, is_blank, begins, after_blank, digits, after_digits, spaced_number, Fields, ended, maxval_and_end, height_on, fields}
-use Rattle.evm_formats.specs.Pgm.{Shot, shot, image_at, is_magic, are_numbers, in_range, is_shape, is_wide, after_white, taken, later_image}
+use Rattle.evm_formats.specs.Pgm.{Shot, shot, image_at, are_numbers, in_range, is_shape, is_wide, after_white, taken, later_image}
 use Rattle.evm_formats.specs.Y4m.{cut_at, after_frame, planes_of, planes_at, frame_at}
 use Rattle.evm_formats.proofs.Images.{TakesBytes}
 

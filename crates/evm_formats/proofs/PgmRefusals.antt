@@ -1,5 +1,5 @@
 -- No PGM file is refused for a sampling.
-use Rattle.std.proofs.Common.{◌≡◌, ℕ, zero, suc, ◌+◌, ◌*◌, nat_le, Bool, true, false, cond, List, [], ◌∷◌, length, take, drop, Option, None, Some, Ok, Err, ap}
+use Rattle.std.proofs.Common.{◌≡◌, ℕ, zero, suc, ◌+◌, ◌*◌, nat_le, Bool, true, false, cond, List, [], ◌∷◌, length, drop, Option, None, Some, Ok, Err, ap}
 use Rattle.std.specs.Prelude.{Result}
 use Rattle.evm_formats.specs.declared.voxels.VoxelError.{VoxelError}
 use Rattle.evm_formats.specs.declared.voxels.VoxelError.TheVariants.{Magic, Header, Shape, Range, Short, Kind}

@@ -1,12 +1,10 @@
 -- The worked files of images.
 use Rattle.std.proofs.Common.{◌≡◌, ℕ, List, [], ◌∷◌, ℤ, Ok, false, refl, ap, ◌∙◌}
-use Rattle.std.specs.Prelude.{Result}
 use Rattle.evm_cells.specs.Limits.{limit, ints}
-use Rattle.evm_formats.specs.declared.voxels.VoxelError.{VoxelError}
-use Rattle.evm_formats.specs.Images.{Picture, sample, at_least, in_sizes, within, of_two, of_three, in_image, in_stack, map_ok, then_ok, images_within, cells_of_images}
+use Rattle.evm_formats.specs.Images.{Picture, sample, at_least, in_sizes, within, of_two, of_three, in_image, in_stack, images_within, cells_of_images}
 use Rattle.evm_formats.specs.Header.{after_blank, digits, after_digits, spaced_number, ended, fields}
-use Rattle.evm_formats.specs.Pgm.{Shot, shot, image_at, after_white, images_from, shot_cells, pgm_cells}
-use Rattle.evm_formats.specs.Y4m.{Stream, cut_at, values, sampling_of, sized, sampled, headed, stream, planes_at, frame_at, frames_of, stream_cells, y4m_cells}
+use Rattle.evm_formats.specs.Pgm.{shot, image_at, after_white, images_from, pgm_cells}
+use Rattle.evm_formats.specs.Y4m.{cut_at, values, sampling_of, sized, sampled, headed, stream, planes_at, frame_at, frames_of, y4m_cells}
 use Rattle.evm_formats.specs.VoxelLaws.{listed, image_of_four, ImageOfFour, stream_of_two, StreamOfTwo}
 use Rattle.evm_formats.proofs.Listed.{cells_listed}
 

@@ -1,5 +1,5 @@
 -- What follows from the definitions of PGM stacks and Y4M videos.
-use Rattle.std.specs.Prelude.{◌≡◌, ℕ, ◌+◌, ◌*◌, ◌<◌, ◌≤◌, ◌⊎◌, not, true, false, ◌&&◌, ◌||◌, Bool, List, [], ◌∷◌, ◌++◌, flat_map, map, cond, length, int_le, Option, None, Some, Ok, Err, IfOk, pos, ◌-ℤ◌, ℤ, codes}
+use Rattle.std.specs.Prelude.{◌≡◌, ℕ, ◌+◌, ◌*◌, ◌<◌, ◌≤◌, ◌⊎◌, not, true, ◌&&◌, ◌||◌, Bool, List, [], ◌∷◌, ◌++◌, flat_map, map, cond, length, int_le, Option, None, Some, Ok, Err, IfOk, pos, ◌-ℤ◌, ℤ, codes}
 use Rattle.std.specs.List.{list_all}
 use Rattle.evm_cells.specs.Limits.{limit, ints, cells_where, IsCellSet}
 use Rattle.evm_cells.specs.Examples.{plane, space}
@@ -8,7 +8,7 @@ use Rattle.evm_formats.specs.declared.voxels.VoxelError.TheVariants.{Kind, Short
 use Rattle.evm_formats.specs.Images.{Picture, bytes_of, within, in_stack, cells_of_images}
 use Rattle.evm_formats.specs.Header.{is_white, is_end}
 use Rattle.evm_formats.specs.Pgm.{Shot, shot, image_at, are_numbers, in_range, is_shape, is_wide, images_from, pgm_cells}
-use Rattle.evm_formats.specs.Y4m.{Stream, stream, frames_of, y4m_cells}
+use Rattle.evm_formats.specs.Y4m.{Stream, frames_of, y4m_cells}
 
 -- ---- a header
 

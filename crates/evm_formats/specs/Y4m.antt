@@ -1,5 +1,5 @@
 -- What the bytes of a Y4M stream state: frame by frame, or the first refusal (the format is this project's own profile).
-use Rattle.std.specs.Prelude.{ℕ, zero, suc, ◌+◌, ◌-◌, ◌*◌, ◌/◌, ◌==◌, nat_le, nat_lt, nat_eq, Bool, false, cond, ◌&&◌, ◌||◌, List, [], ◌∷◌, length, flat_map, take, drop, ℤ, Option, Some, None, option_map, Result, Ok, Err, bytes_eq, codes}
+use Rattle.std.specs.Prelude.{ℕ, ◌+◌, ◌*◌, ◌/◌, ◌==◌, nat_le, nat_lt, nat_eq, Bool, false, cond, ◌&&◌, ◌||◌, List, [], ◌∷◌, length, flat_map, take, drop, ℤ, Option, Some, None, option_map, Result, Ok, Err, bytes_eq, codes}
 use Rattle.std.specs.List.{list_all, slice_split, starts_with}
 use Rattle.evm_cells.specs.Limits.{limit}
 use Rattle.evm_formats.specs.Images.{Picture, Taken, cells_of_images, map_ok, then_ok, all_images}

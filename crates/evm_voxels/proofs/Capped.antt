@@ -8,7 +8,7 @@ use Rattle.evm_formats.specs.declared.voxels.VoxelError.TheVariants.{Magic, Head
 use Rattle.evm_formats.specs.Header.{is_white, spaced_number, Fields, ended, maxval_and_end, height_on, fields}
 use Rattle.evm_formats.specs.Pgm.{shot, are_numbers, in_range, image_at, is_magic}
 use Rattle.evm_formats.proofs.Limits.{limit_small}
-use Rattle.evm_voxels.specs.Numbers.{word_max, capped, capped_number, capped_fields}
+use Rattle.evm_voxels.specs.Numbers.{capped, capped_number, capped_fields}
 
 -- ---- the numbers of a header, one after another
 

@@ -1,21 +1,19 @@
 -- The points of odd parity in a grid are the extreme vertices of the places that pass.
-use Rattle.std.proofs.Common.{◌≡◌, ℕ, suc, Bool, true, false, cond, ◌&&◌, List, [], ◌∷◌, map, flat_map, filter, length, ℤ, pos, ◌-ℤ◌, ◌+ℤ◌, ◌≤ℤ◌, ◌<ℤ◌, refl, sym, ap, ap₂, ◌∙◌, arith, int_le, int_lt, int_eq}
-use Rattle.std.specs.List.{list_any, list_all}
+use Rattle.std.proofs.Common.{◌≡◌, ℕ, suc, Bool, true, false, ◌&&◌, List, [], ◌∷◌, map, length, ℤ, pos, ◌-ℤ◌, ◌≤ℤ◌, ◌<ℤ◌, refl, sym, ap, ap₂, ◌∙◌, arith, int_le, int_lt}
+use Rattle.std.specs.List.{list_all}
 use Rattle.std.proofs.lemmas.Bool.{true≢false, false≢true}
 use Rattle.std.proofs.lemmas.Int.{ints as int_facts}
-use Rattle.evm_cells.specs.Places.{same, each, has, before, ascending}
-use Rattle.evm_cells.specs.Limits.{ints, limit, every_cell, cells_where, is_cell, is_point, is_cell_coord, is_point_coord, IsCellSet}
+use Rattle.evm_cells.specs.Places.{each, has}
+use Rattle.evm_cells.specs.Limits.{limit, cells_where, is_cell, is_point, is_point_coord, IsCellSet}
 use Rattle.evm_cells.specs.Booleans.{xor}
 use Rattle.evm_cells.specs.Vertices.{evm, touch, odd}
 use Rattle.evm_cells.specs.Boxes.{corners}
 use Rattle.evm_cells.specs.Measures.{neighbours}
 use Rattle.evm_cells.proofs.Xor.{xsum, xsum-cons, xsum-nil, xor-false, false-xor, and_first, and_second, and_both, odd-count}
 use Rattle.evm_cells.proofs.Sum.{xsum-append, xsum-map}
-use Rattle.evm_cells.proofs.Order.{rising, refuted}
-use Rattle.evm_cells.proofs.Lists.{all-map, all-flat_map, all_always, all_weaker, any-map, any-flat_map, any_same, any_never, any-and_left, any-and_right, rising-append}
-use Rattle.evm_cells.proofs.Coords.{any-ints, rising-ints, le_yes, lt_yes, le_is, lt_is, cell_yes, point_yes, eq_is}
-use Rattle.evm_cells.proofs.Places.{ascending-rising, has-any, rising_prefixed, before_first}
-use Rattle.evm_cells.proofs.Universe.{same_sets, has-evm, has-cells, odd-around, ascending-evm, ascending-filter, ascending-every_cell, all-every_cell, absorb, cell_from, point_from}
+use Rattle.evm_cells.proofs.Order.{refuted}
+use Rattle.evm_cells.proofs.Coords.{le_yes, lt_yes, le_is, lt_is, point_yes}
+use Rattle.evm_cells.proofs.Universe.{same_sets, has-evm, has-cells, odd-around, ascending-evm, absorb, cell_from, point_from}
 use Rattle.evm_cells.proofs.Combine.{cell_set-filter}
 use Rattle.evm_cells.proofs.Neighbours.{around-neighbours}
 use Rattle.evm_formats.specs.Images.{in_sizes}

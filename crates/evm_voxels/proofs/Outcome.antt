@@ -1,9 +1,8 @@
 -- What an answer tells of what bytes state.
-use Rattle.std.proofs.Common.{◌≡◌, ◌≢◌, ◌↔◌, ℕ, ◌*◌, ◌≤◌, ◌==◌, ◌⊎◌, true, false, inl, inr, List, [], ◌∷◌, length, filter, ℤ, Ok, Err, refl, sym, ap, ap₂, ◌∙◌, subst, arith, ⊎_elim}
+use Rattle.std.proofs.Common.{◌≡◌, ◌≢◌, ◌↔◌, ℕ, ◌*◌, ◌≤◌, ◌==◌, ◌⊎◌, true, false, inl, inr, List, [], ◌∷◌, length, ℤ, Ok, Err, refl, sym, ap, ap₂, ◌∙◌, subst, arith, ⊎_elim}
 use Rattle.std.specs.Prelude.{Result, IsOk, IsErrOf, IsErrAnd, IsOkAnd, IfOk, IfErr, None}
 use Rattle.std.proofs.lemmas.Bool.{false≢true}
 use Rattle.std.proofs.lemmas.Bool.Decides.{nat_tests}
-use Rattle.evm_cells.specs.Limits.{IsCellSet, cells_where, every_cell}
 use Rattle.evm_cells.specs.Vertices.{evm, cells}
 use Rattle.evm_cells.proofs.Core.{cells-evm}
 use Rattle.evm_cells.proofs.Layers.{evm-empty}

@@ -1,5 +1,5 @@
 -- Parities round the points of a grid, by differences of neighbouring places.
-use Rattle.std.specs.Prelude.{ℕ, suc, Bool, cond, List, [], ◌∷◌, map, flat_map, ℤ, pos, ◌-ℤ◌}
+use Rattle.std.specs.Prelude.{ℕ, suc, Bool, List, [], ◌∷◌, map, ℤ, pos, ◌-ℤ◌}
 use Rattle.evm_cells.specs.Booleans.{xor}
 use Rattle.evm_formats.specs.VoxelLaws.{listed}
 

@@ -1,6 +1,5 @@
-use Rattle.std.proofs.Common.{rules, ◌≡◌, ℕ, ◌+◌, ◌*◌, ◌<◌, ◌≤◌, length, None, Some, Err, arith, sym, refl, ap, subst, List}
+use Rattle.std.proofs.Common.{rules, ◌≡◌, ℕ, ◌+◌, ◌*◌, ◌<◌, length, None, Some, Err, arith, sym, refl, ap}
 use Rattle.std.proofs.lemmas.Bool.Decides.{nat_tests}
-use Rattle.evm_cells.specs.Limits.{limit}
 use Rattle.evm_formats.specs.Pgm.{images_from, later_image, taken, pgm_cells}
 use Rattle.evm_formats.proofs.Lengths.{image_takes, later-takes, length-white}
 use Rattle.evm_voxels.specs.Shots.{pair_of, shot_of}
