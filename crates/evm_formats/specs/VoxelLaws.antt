@@ -129,7 +129,8 @@ frames_in s bytes = record s { rest = bytes }
 
 -- frames and then other frames are the first and then the others
 abbrev pub FramesJoin : Type 0
-FramesJoin = (s : Stream) (front back : List ℕ) (ps qs : List Picture) → frames_of 3 (frames_in s front) ≡ Ok ps → frames_of 3 (frames_in s back) ≡ Ok qs
+FramesJoin = (s : Stream) (front back : List ℕ) (ps qs : List Picture)
+    → frames_of 3 (frames_in s front) ≡ Ok ps → frames_of 3 (frames_in s back) ≡ Ok qs
     → length ps + length qs ≤ limit 3 → frames_of 3 (frames_in s (front ++ back)) ≡ Ok (ps ++ qs)
 
 -- ---- refusals and sets
@@ -150,7 +151,9 @@ abbrev pub image_of_four : List ℕ
 image_of_four = codes "P5" ++ 10 ∷ codes "# scan" ++ 10 ∷ codes "2 2" ++ 10 ∷ codes "255" ++ 10 ∷ 0 ∷ 200 ∷ 200 ∷ 0 ∷ []
 
 abbrev pub ImageOfFour : Type 0
-ImageOfFour = (pgm_cells 2 128 image_of_four ≡ Ok (plane 0 1 ∷ plane 1 0 ∷ [])) × (pgm_cells 2 200 image_of_four ≡ Ok (plane 0 1 ∷ plane 1 0 ∷ [])) × (pgm_cells 2 201 image_of_four ≡ Ok [])
+ImageOfFour = (pgm_cells 2 128 image_of_four ≡ Ok (plane 0 1 ∷ plane 1 0 ∷ []))
+    × (pgm_cells 2 200 image_of_four ≡ Ok (plane 0 1 ∷ plane 1 0 ∷ []))
+    × (pgm_cells 2 201 image_of_four ≡ Ok [])
 
 -- a stream of one column and one row, whose second frame has a parameter, and whose samples are 255 and 7
 abbrev pub stream_of_two : List ℕ

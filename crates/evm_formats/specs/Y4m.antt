@@ -36,7 +36,8 @@ only_number (ds ∷ es ∷ more) = None
 
 -- 420 in its four forms, which differ in where the samples lie
 abbrev pub is_quarter : List ℕ → Bool
-is_quarter kind = bytes_eq kind (codes "420") || bytes_eq kind (codes "420jpeg") || bytes_eq kind (codes "420paldv") || bytes_eq kind (codes "420mpeg2")
+is_quarter kind = bytes_eq kind (codes "420") || bytes_eq kind (codes "420jpeg")
+    || bytes_eq kind (codes "420paldv") || bytes_eq kind (codes "420mpeg2")
 
 -- the sampling of each value of C; none where it is not in the table
 unfoldable pub sampling_of : List ℕ → Option Sampling
@@ -67,7 +68,8 @@ pub record Stream : Type 0 where
 -- Kind and Range, in this order
 unfoldable pub sized : ℕ → ℕ → ℕ → Option Sampling → List ℕ → Result Stream VoxelError
 sized n w h None rest = Err Kind
-sized n w h (Some s) rest = cond (nat_le w (limit n) && nat_le h (limit n)) (Ok (record { width = w; height = h; extra = chroma s w h; rest = rest })) (Err Range)
+sized n w h (Some s) rest =
+    cond (nat_le w (limit n) && nat_le h (limit n)) (Ok (record { width = w; height = h; extra = chroma s w h; rest = rest })) (Err Range)
 
 -- the sampling that C states; without C it is 420 (this project's own choice), and more than one C is refused
 abbrev pub kind_of : List (List ℕ) → Result (Option Sampling) VoxelError
@@ -113,7 +115,8 @@ planes_at n z w h extra None = Err Header
 planes_at n z w h extra (Some bs) =
     cond (nat_lt z (limit n))
     (cond ((n == 3) || (z == 0))
-    (cond (nat_le (h * w + extra) (length bs)) (Ok (record { picture = record { bytes = take (h * w) bs; wide = false }; rest = drop (h * w + extra) bs })) (Err Short))
+    (cond (nat_le (h * w + extra) (length bs))
+    (Ok (record { picture = record { bytes = take (h * w) bs; wide = false }; rest = drop (h * w + extra) bs })) (Err Short))
     (Err Shape))
     (Err Range)
 

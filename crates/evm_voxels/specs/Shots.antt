@@ -28,7 +28,8 @@ words_of count = (count + 31) / 32
 -- the words hold the marks of the first z images, of `count` samples each: each image's begin at a word
 pub record AreMarked (marks : List ℕ) (count z threshold : ℕ) (images : List Picture) : Type 0 where
   pub size : length marks ≡ z * words_of count
-  pub marked : (j i : ℕ) → j < z → i < count → is_marked marks (j * (32 * words_of count) + i) ≡ nat_le threshold (sample (get_or images j no_picture) i)
+  pub marked : (j i : ℕ) → j < z → i < count → is_marked marks (j * (32 * words_of count) + i)
+      ≡ nat_le threshold (sample (get_or images j no_picture) i)
 
 -- the file states this many images, the first of this size
 pub record IsStack (n : ℕ) (bs : List ℕ) (size : Size) (depth : ℕ) : Type 0 where

@@ -24,10 +24,13 @@ fn append_words(
     requires first { first ≤ of.now.width }
     requires some { 0 < of.now.width }
     requires long { length last.old.items ≡ of.now.depth + 1 }
-    requires last { (k z : ℕ) → k < 32 → z < of.now.depth + 1 → bit_on k (slice_index last.old.items z) ≡ seam (filled_in of.now) (pos (first + k)) ((pos y -ℤ pos 1) ∷ pos z ∷ []) }
-    ensures words { OnOk result ((k : ℕ) → k < 32 → map (bit_on k) words.new.items ≡ map (bit_on k) words.old.items ++ line_of (λ c. turns (filled_in of.now) (pos (first + k) ∷ pos y ∷ c)) (of.now.depth + 1)) }
+    requires last { (k z : ℕ) → k < 32 → z < of.now.depth + 1 → bit_on k (slice_index last.old.items z)
+        ≡ seam (filled_in of.now) (pos (first + k)) ((pos y -ℤ pos 1) ∷ pos z ∷ []) }
+    ensures words { OnOk result ((k : ℕ) → k < 32 → map (bit_on k) words.new.items
+        ≡ map (bit_on k) words.old.items ++ line_of (λ c. turns (filled_in of.now) (pos (first + k) ∷ pos y ∷ c)) (of.now.depth + 1)) }
     ensures long { OnOk result (length last.new.items ≡ of.now.depth + 1) }
-    ensures last { OnOk result ((k z : ℕ) → k < 32 → z < of.now.depth + 1 → bit_on k (slice_index last.new.items z) ≡ seam (filled_in of.now) (pos (first + k)) (pos y ∷ pos z ∷ [])) }
+    ensures last { OnOk result ((k z : ℕ) → k < 32 → z < of.now.depth + 1 → bit_on k (slice_index last.new.items z)
+        ≡ seam (filled_in of.now) (pos (first + k)) (pos y ∷ pos z ∷ [])) }
 {
     let mut before = 0u32;
     for z in 0..of.depth + 1 {
@@ -51,7 +54,8 @@ fn fill_block(
     requires some { 0 < of.now.width }
     requires long { length last.old.items ≡ of.now.depth + 1 }
     requires clear { (k z : ℕ) → k < 32 → z < of.now.depth + 1 → bit_on k (slice_index last.old.items z) ≡ false }
-    ensures words { OnOk result ((k : ℕ) → k < 32 → map (bit_on k) words.new.items ≡ table (of.now.height ∷ of.now.depth ∷ []) (λ c. turns (filled_in of.now) (pos (first + k) ∷ c))) }
+    ensures words { OnOk result ((k : ℕ) → k < 32 → map (bit_on k) words.new.items
+        ≡ table (of.now.height ∷ of.now.depth ∷ []) (λ c. turns (filled_in of.now) (pos (first + k) ∷ c))) }
     ensures long { OnOk result (length last.new.items ≡ of.now.depth + 1) }
     ensures clear { OnOk result ((k z : ℕ) → k < 32 → z < of.now.depth + 1 → bit_on k (slice_index last.new.items z) ≡ false) }
 {
@@ -93,7 +97,8 @@ fn append_plane(
     requires short { line ≤ 2 ^ 30 + 1 }
     requires few { count ≤ 2 ^ 30 + 1 }
     requires whole { length words.now ≡ count * line }
-    ensures { OnOk result (out.new.items ≡ out.old.items ++ flat_of (map (λ t. pos x ∷ t) (planes line count 0 (map (bit_on column) words.now)))) }
+    ensures { OnOk result (out.new.items ≡ out.old.items
+        ++ flat_of (map (λ t. pos x ∷ t) (planes line count 0 (map (bit_on column) words.now)))) }
 {
     let mut rest = words;
     let mut left = count;
@@ -119,7 +124,8 @@ fn append_block(
 ) -> Result<(), AllocError>
     requires few { count ≤ 32 }
     requires within { first + count ≤ of.now.width + 1 }
-    requires words { (k : ℕ) → k < 32 → map (bit_on k) words.now ≡ table (of.now.height ∷ of.now.depth ∷ []) (λ c. turns (filled_in of.now) (pos (first + k) ∷ c)) }
+    requires words { (k : ℕ) → k < 32 → map (bit_on k) words.now
+        ≡ table (of.now.height ∷ of.now.depth ∷ []) (λ c. turns (filled_in of.now) (pos (first + k) ∷ c)) }
     ensures { OnOk result (out.old.items ≡ columns (of.now.height ∷ of.now.depth ∷ []) (turns (filled_in of.now)) first
         → out.new.items ≡ columns (of.now.height ∷ of.now.depth ∷ []) (turns (filled_in of.now)) (first + count)) }
 {

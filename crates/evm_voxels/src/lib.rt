@@ -58,7 +58,8 @@ pub fn read_pgm(
     ensures kind { ¬ IsErrOf result VoxelError.Kind }
 
     // A want of memory may stand in place of a solid alone.
-    ensures found { (S : List (List ℤ)) → pgm_cells dim threshold bytes.now ≡ Ok S → IsOkAnd result (λ s. cells_of s ≡ S) ⊎ IsErrOf result VoxelError.NoMemory }
+    ensures found { (S : List (List ℤ)) → pgm_cells dim threshold bytes.now ≡ Ok S
+        → IsOkAnd result (λ s. cells_of s ≡ S) ⊎ IsErrOf result VoxelError.NoMemory }
 {
     pgm::read_stack(alloc, dim, threshold, bytes)
 }
@@ -88,7 +89,8 @@ pub fn read_y4m(
     ensures refused { (e : VoxelError) → e ≢ NoMemory → IsErrOf result e ↔ (y4m_cells dim threshold bytes.now ≡ Err e) }
 
     // A want of memory may stand in place of a solid alone.
-    ensures found { (S : List (List ℤ)) → y4m_cells dim threshold bytes.now ≡ Ok S → IsOkAnd result (λ s. cells_of s ≡ S) ⊎ IsErrOf result VoxelError.NoMemory }
+    ensures found { (S : List (List ℤ)) → y4m_cells dim threshold bytes.now ≡ Ok S
+        → IsOkAnd result (λ s. cells_of s ≡ S) ⊎ IsErrOf result VoxelError.NoMemory }
 {
     y4m::read_video(alloc, dim, threshold, bytes)
 }

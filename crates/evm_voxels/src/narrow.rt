@@ -34,7 +34,8 @@ pub fn append_line(
     x: usize,
     y: usize,
 ) -> Result<(), AllocError>
-    ensures { OnOk result (out.new.items ≡ out.old.items ++ flat_of (map (λ t. head.now ++ t) (grid (places.now.depth ∷ []) (λ c. turns (filled_in places.now) (pos x ∷ pos y ∷ c))))) }
+    ensures { OnOk result (out.new.items ≡ out.old.items
+        ++ flat_of (map (λ t. head.now ++ t) (grid (places.now.depth ∷ []) (λ c. turns (filled_in places.now) (pos x ∷ pos y ∷ c))))) }
 {
     let mut before = false;
     for z in 0..places.depth + 1 {
@@ -48,7 +49,9 @@ pub fn append_line(
 // Appends a row x y z for each point of odd parity in column x.
 fn append_column(out: &mut Vec<i32>, places: &Grid<'_>, x: usize) -> Result<(), AllocError>
     requires { x ≤ 2 ^ 30 }
-    ensures { OnOk result (out.new.items ≡ out.old.items ++ flat_of (map (λ t. pos x ∷ t) (grid (places.now.height ∷ places.now.depth ∷ []) (λ c. turns (filled_in places.now) (pos x ∷ c))))) }
+    ensures { OnOk result (out.new.items ≡ out.old.items
+        ++ flat_of (map (λ t. pos x ∷ t) (grid (places.now.height ∷ places.now.depth ∷ [])
+        (λ c. turns (filled_in places.now) (pos x ∷ c))))) }
 {
     for y in 0..places.height + 1 {
         let head = [x as i32, y as i32];

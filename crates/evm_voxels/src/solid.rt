@@ -29,7 +29,8 @@ pub fn solid_of(
     requires room { extent.depth * (extent.size.height * extent.size.width) < 2 ^ 63 }
     requires size { length marks.now ≡ extent.depth * words_of (extent.size.height * extent.size.width) }
     ensures dim { IfOk result (λ s. s.dim ≡ dim) }
-    ensures rows { (threshold : ℕ) (images : List Picture) → length images ≡ extent.depth → AreMarked marks.now (extent.size.height * extent.size.width) extent.depth threshold images
+    ensures rows { (threshold : ℕ) (images : List Picture) → length images ≡ extent.depth
+        → AreMarked marks.now (extent.size.height * extent.size.width) extent.depth threshold images
         → IfOk result (λ s. s.rows ≡ evm dim (cells_of_images dim threshold extent.size.width extent.size.height images)) }
     ensures memory { IfErr result (λ e. e ≡ NoMemory) }
 {

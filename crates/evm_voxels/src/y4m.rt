@@ -205,7 +205,8 @@ fn kind_of(found: Found<'_>) -> Result<Option<Sampling>, VoxelError>
 // What the parameters of the first line state.
 fn headed<'a>(dim: usize, line: &[u8], rest: &'a [u8]) -> Result<Stream<'a>, VoxelError>
     requires { (dim ≡ 2) ⊎ (dim ≡ 3) }
-    ensures exact { map_ok stream_of result ≡ sampled dim (only_number (values 87 line.now)) (only_number (values 72 line.now)) (kind_of (values 67 line.now)) rest.entry.now }
+    ensures exact { map_ok stream_of result
+        ≡ sampled dim (only_number (values 87 line.now)) (only_number (values 72 line.now)) (kind_of (values 67 line.now)) rest.entry.now }
     ensures width { IfOk result (λ s. s.size.width ≤ limit dim) }
     ensures height { IfOk result (λ s. s.size.height ≤ limit dim) }
     ensures extra { IfOk result (λ s. s.extra ≤ 2 ^ 62) }
@@ -389,7 +390,8 @@ fn mark_frames(
     requires width { of.size.width ≤ limit dim }
     requires height { of.size.height ≤ limit dim }
     requires extra { of.extra ≤ 2 ^ 62 }
-    ensures marked { IfOk result (λ v. (ps : List Picture) → frames_of dim (stream_of of.entry) ≡ Ok ps → AreMarked v.items (of.entry.size.height * of.entry.size.width) (length ps) threshold ps) }
+    ensures marked { IfOk result (λ v. (ps : List Picture) → frames_of dim (stream_of of.entry) ≡ Ok ps
+        → AreMarked v.items (of.entry.size.height * of.entry.size.width) (length ps) threshold ps) }
     ensures refused { IfErr result (λ e. (e ≡ NoMemory) ⊎ (frames_of dim (stream_of of.entry) ≡ Err e)) }
 {
     let count = of.size.height * of.size.width;
