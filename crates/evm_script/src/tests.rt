@@ -192,6 +192,10 @@ fn lends_names_and_numbers(rt: HostRuntime) -> Result<(), Fail> {
     assert_eq!(rt; nums.len(), 2);
     assert_eq!(rt; nums.at(1), -5);
     assert_eq!(rt; nums.values(), [4i64, -5].as_slice());
+    assert!(rt; nums.are_between(-5, 4) && nums.between(-4, 4).is_none());
+    let found = nums.between(-5, 4).ok_or("between")?;
+    assert_eq!(rt; found.values(), [4i32, -5].as_slice());
+    assert_eq!(rt; Num::within(-7).between(-7, 0), Some(-7));
     printed_lines_are_read_again();
     Ok(())
 }
