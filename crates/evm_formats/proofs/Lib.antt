@@ -14,5 +14,6 @@ pub mod Joins
 pub mod StackLaws
 pub mod FrameLaws
 pub mod Listed
+pub mod HeaderForms
 pub mod VoxelFiles
 pub mod CellLaws

@@ -63,6 +63,22 @@ HeaderStates = (n z : ℕ) (size : Option (ℕ × ℕ)) (w h m : Spaced) (last :
     → image_at n z size (header_bytes w h m last rest)
     ≡ shot n z size (Some (record { width = spaced_value w; height = spaced_value h; maxval = spaced_value m; rest = rest }))
 
+-- an image as it is written: a header, and its samples, and then the bytes after it
+pub record IsWritten (bytes : List ℕ) (s : Shot) : Type 0 where
+  pub w : Spaced
+  pub h : Spaced
+  pub m : Spaced
+  pub last : ℕ
+  pub header : IsHeader w h m last
+  pub whole : bytes ≡ header_bytes w h m last (s.picture.bytes ++ s.rest)
+  pub width : s.width ≡ spaced_value w
+  pub height : s.height ≡ spaced_value h
+  pub wide : s.picture.wide ≡ is_wide (spaced_value m)
+
+-- bytes that state an image are so written
+abbrev pub ImagesAreWritten : Type 0
+ImagesAreWritten = (n z : ℕ) (size : Option (ℕ × ℕ)) (bytes : List ℕ) (s : Shot) → image_at n z size bytes ≡ Ok s → IsWritten bytes s
+
 -- numbers that an image may have as number z of a stack of dimension n
 pub record AreTaken (n z : ℕ) (size : Option (ℕ × ℕ)) (width height maxval : ℕ) : Type 0 where
   pub numbers : are_numbers width height maxval ≡ true

@@ -27,7 +27,8 @@
 
 ghost use Rattle.std.specs.Prelude.{◌≡◌};
 ghost use Rattle.evm_formats.specs.declared.voxels.VoxelError.TheVariants.{NoMemory};
-ghost use Rattle.evm_formats.specs.VoxelLaws.{HeaderStates, SamplesState, FewerAreShort, StacksJoin, StackCells, CellsJoin, CellsListed};
+ghost use Rattle.evm_formats.specs.VoxelLaws.{HeaderStates, ImagesAreWritten, SamplesState, FewerAreShort};
+ghost use Rattle.evm_formats.specs.VoxelLaws.{StacksJoin, StackCells, CellsJoin, CellsListed};
 ghost use Rattle.evm_formats.specs.VoxelLaws.{FramesJoin, NeverKind, VoxelCellSets, ImageOfFour, StreamOfTwo};
 
 use std::alloc::AllocError;
@@ -80,11 +81,12 @@ pub enum Sampling {
     Mono,
 }
 
-/// A stack states its images, whatever the bytes between them.
+/// What the bytes of a PGM stack state.
 ///
 /// - `header`: a header states its three numbers, however it is written: whatever white space, comments and zeros.
 /// - `samples`: a header and all its samples state the image of these, whatever follows.
 /// - `short`: a header with fewer bytes than its samples is refused for that.
+/// - `written`: bytes that state an image are such a header, its samples, and what follows.
 /// - `joined`: the bytes of two stacks of one size state the images of the first and then those of the second.
 /// - `cells`: a stack states the cells of its images.
 /// - `raised`: the cells of images behind others are those of the first and, raised by their number, those of the second.
@@ -95,6 +97,7 @@ pub fn stacks_state_images()
     ensures header { HeaderStates }
     ensures samples { SamplesState }
     ensures short { FewerAreShort }
+    ensures written { ImagesAreWritten }
     ensures joined { StacksJoin }
     ensures cells { StackCells }
     ensures raised { CellsJoin }
@@ -103,7 +106,7 @@ pub fn stacks_state_images()
     ensures worked { ImageOfFour }
 {}
 
-/// A stream states its frames.
+/// What the bytes of a Y4M stream state.
 ///
 /// - `joined`: frames and then other frames, behind one first line, are the first and then the others.
 /// - `cell_sets`: the cells that a stream or a stack states are a cell set.

@@ -1,3 +1,4 @@
+use Rattle.evm_formats.proofs.HeaderForms.{images_are_written}
 use Rattle.evm_formats.proofs.HeaderLaws.{header_states, samples_state, fewer_are_short}
 use Rattle.evm_formats.proofs.StackLaws.{stacks_join, stack_cells}
 use Rattle.evm_formats.proofs.CellLaws.{cells_join}
@@ -32,3 +33,6 @@ returns-clause-raised c = cells_join
 
 pub returns-clause-listed : goal.returns-clause-listed
 returns-clause-listed c = cells_listed
+
+pub returns-clause-written : goal.returns-clause-written
+returns-clause-written c = images_are_written
