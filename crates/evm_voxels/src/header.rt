@@ -5,6 +5,8 @@ ghost use Rattle.evm_formats.specs.Header.{is_white, is_blank, is_end, begins, a
 ghost use Rattle.evm_voxels.specs.Numbers.{capped, capped_number, capped_fields};
 ghost use Rattle.evm_voxels.specs.Shots.{fields_read};
 
+use evm_text::is_digit;
+
 /// The numbers of a header, those past 32 bits as the greatest of 32 bits, and the bytes after it.
 #[derive(Clone, Copy)]
 pub struct Fields<'a> {
@@ -19,13 +21,6 @@ pub fn is_white(b: u8) -> bool
     ensures { result ≡ is_white b }
 {
     b == b' ' || (9 <= b && b <= 13)
-}
-
-// 0 to 9.
-fn is_digit(b: u8) -> bool
-    ensures { result ≡ is_digit b }
-{
-    b'0' <= b && b <= b'9'
 }
 
 /// The first byte, and those after it.
