@@ -11,7 +11,7 @@ use Rattle.evm_cells.specs.Shapes.{clip}
 use Rattle.evm_cells.specs.Vertices.{odd, cells, IsVertexList}
 use Rattle.evm_cells.proofs.Xor.{xsum, xsum-same, xsum-same_on, odd-count, and_first, and_second, and_both, and_comm}
 use Rattle.evm_cells.proofs.Sum.{xsum-map, xsum-filter, xsum-none, xsum-weigh}
-use Rattle.evm_cells.proofs.Order.{refuted, sift}
+use Rattle.evm_cells.proofs.Order.{refuted, sift, all-filter}
 use Rattle.evm_cells.proofs.Lists.{all_members, all-map, all_weaker}
 use Rattle.evm_cells.proofs.Places.{strict_places, has-any}
 use Rattle.evm_cells.proofs.Coords.{by_order, le_yes, le_no, lt_yes, le_is, lt_is, point_is, point_yes}
@@ -286,17 +286,9 @@ reduction n L a =
     let t : List ℤ → Bool = λ p. odd (count_by (λ q. same q p) L) in
     record {
       ascends = ascending-filter t (every_point n) (ascending-every_point n);
-      wide = all_weaker (is_point n) (λ p. length p == n) (λ p m. let (e, f) = point_parts n p m in eq-eqb (length p) n e) (filter t (every_point n)) (all-filter (is_point n) t (every_point n) (all-every_point n));
+      wide = all_weaker (is_point n) (λ p. length p == n) (λ p m. let (e, f) = point_parts n p m in eq-eqb (length p) n e) (filter t (every_point n)) (all-filter same before strict_places (is_point n) t (every_point n) (all-every_point n));
       odd_times = λ p. has-points n t p ∙ absorb (is_point n p) (odd (count_by (λ q. same q p) L)) (λ h. lone_is_point n L p a (sym (odd-count (λ (q : List ℤ). same q p) L) ∙ h));
     }
-  where
-    all-filter : (p t : List ℤ → Bool) (S : List (List ℤ)) → list_all p S ≡ true → list_all p (filter t S) ≡ true
-    all-filter p t [] h = refl
-    all-filter p t (x ∷ S) h = at (t x) (and_first (p x) (list_all p S) h) (all-filter p t S (and_second (p x) (list_all p S) h))
-      where
-        at : (b : Bool) → p x ≡ true → list_all p (filter t S) ≡ true → list_all p (cond b (x ∷ filter t S) (filter t S)) ≡ true
-        at true e f = and_both (p x) (list_all p (filter t S)) e f
-        at false e f = f
 
 pub vertices_of_clip : VerticesOfClip
 vertices_of_clip n lo hi V p box v l =

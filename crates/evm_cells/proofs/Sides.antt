@@ -11,6 +11,7 @@ use Rattle.evm_cells.specs.Windows.{is_under, is_over, TwoSides, RowsUnder, Rows
 use Rattle.evm_cells.proofs.Xor.{xsum, xsum-same_on, and_first, and_second, and_both}
 use Rattle.evm_cells.proofs.Sum.{xsum-none}
 use Rattle.evm_cells.proofs.Lists.{all_members}
+use Rattle.evm_cells.proofs.Order.{all-filter}
 use Rattle.evm_cells.proofs.Places.{strict_places, has-any}
 use Rattle.evm_cells.proofs.Coords.{le_yes, le_no, lt_yes, lt_no, le_is, by_order}
 use Rattle.evm_cells.proofs.Universe.{point_parts, cell_parts, same_sets, cell_set-cells, ascending-filter, has-filter, member_passes}
@@ -21,16 +22,8 @@ use Rattle.evm_cells.proofs.Slices.{coord, each-with_at}
 use Rattle.evm_cells.proofs.SectionSums.{with_at-without}
 use Rattle.evm_cells.proofs.Clamping.{not_less, not_most}
 
-all-filter : (p t : List ℤ → Bool) (S : List (List ℤ)) → list_all p S ≡ true → list_all p (filter t S) ≡ true
-all-filter p t [] h = refl
-all-filter p t (x ∷ S) h = at (t x) (and_first (p x) (list_all p S) h) (all-filter p t S (and_second (p x) (list_all p S) h))
-  where
-    at : (b : Bool) → p x ≡ true → list_all p (filter t S) ≡ true → list_all p (cond b (x ∷ filter t S) (filter t S)) ≡ true
-    at true e f = and_both (p x) (list_all p (filter t S)) e f
-    at false e f = f
-
 pub cell_set-part : (n : ℕ) (t : List ℤ → Bool) (S : List (List ℤ)) → IsCellSet n S → IsCellSet n (filter t S)
-cell_set-part n t S s = record { ascends = ascending-filter t S s.ascends; cells = all-filter (is_cell n) t S s.cells }
+cell_set-part n t S s = record { ascends = ascending-filter t S s.ascends; cells = all-filter same before strict_places (is_cell n) t S s.cells }
 
 over_is : (at x : ℤ) → int_le at x ≡ not (int_lt x at)
 over_is at x = by_order x at (λ l. le_no at x l ∙ ap not (sym (lt_yes x at l))) (λ e. le_yes at x (omega (arith, int_facts)) ∙ ap not (sym (lt_no x at (omega (arith, int_facts))))) (λ l. le_yes at x (omega (arith, int_facts)) ∙ ap not (sym (lt_no x at (omega (arith, int_facts)))))

@@ -67,10 +67,13 @@ fn dim_of(op: &Op1, dim: usize) -> usize
 /// The change of a shape where its operand `a` changes by `da`, so that it becomes `a xor da`: the exclusive or of the
 /// shape before and after.
 ///
-/// The shape before is in range. Answers `Range` exactly where a shift or a lift takes some cell of `a xor da` past the limits. All
-/// shapes but the projection carry the change over as they do a solid; for a projection the columns that have a cell of
-/// the change are projected before and after. Where nothing changes, nothing is done. Takes the memory of the calls of
-/// that shape, for a projection three times and for its columns.
+/// The shape before is in range. All shapes but the projection carry the change over as they do a solid; for a projection
+/// the columns that have a cell of the change are projected before and after. Where nothing changes, nothing is done.
+/// Takes the memory of the calls of that shape, for a projection three times and for its columns.
+///
+/// # Errors
+///
+/// `Range` exactly where a shift or a lift takes some cell of `a xor da` past the limits. `NoMemory` where there is none.
 pub fn delta1(alloc: Global, op: &Op1, a: Rows<'_>, da: Rows<'_>) -> Result<Solid, DeltaError>
     requires same_dim { (vertices_of da).dim ≡ (vertices_of a).dim }
     requires fits { Fits op.now (vertices_of a).dim }

@@ -96,9 +96,11 @@ fn clipped(alloc: Global, a: Rows<'_>, numbers: &[i64]) -> Result<Solid, NoMemor
     clip(alloc, a, lo, hi)
 }
 
-/// The shape of a solid, made anew.
+/// The shape of a solid, made anew. Takes the memory of the call of that shape.
 ///
-/// Answers `Range` exactly where a shift or a lift takes some cell past the limits. Takes the memory of the call of that shape.
+/// # Errors
+///
+/// `Range` exactly where a shift or a lift takes some cell past the limits. `NoMemory` where there is none.
 pub fn shape(alloc: Global, op: &Op1, a: Rows<'_>) -> Result<Solid, DeltaError>
     requires { Fits op.now (vertices_of a).dim }
     ensures vertices { IfOk result (λ s. s ≡ shape_vertices op.now (vertices_of a.entry)) }

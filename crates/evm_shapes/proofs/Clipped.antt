@@ -14,18 +14,6 @@ use Rattle.evm_cells.proofs.Corners.{cell_set-box}
 use Rattle.evm_rows.specs.Rows.{Vertices}
 use Rattle.evm_boolean.specs.Tower.{and_vertices}
 
--- the ends of a box have its dimension's length
-pub box_lengths : (n : ℕ) (lo hi : List ℤ) → is_box n lo hi ≡ true → (length lo ≡ n) × (length hi ≡ n)
-box_lengths n lo hi h =
-    let both : (is_point n lo && is_point n hi) ≡ true = and_first (is_point n lo && is_point n hi) (each int_lt lo hi) h in
-    let (e, a) = point_parts n lo (and_first (is_point n lo) (is_point n hi) both) in
-    let (f, b) = point_parts n hi (and_second (is_point n lo) (is_point n hi) both) in
-    (e, f)
-
-pub cell_set-clip : (n : ℕ) (lo hi : List ℤ) (S : List (List ℤ)) → IsCellSet n (clip n lo hi S)
-unfolding clip and_cells
-cell_set-clip n lo hi S = cell_set-combine (λ a b. a && b) n S (box_cells n lo hi)
-
 -- the intersection with the vertices of a box
 pub clipped : (n m : ℕ) (lo hi : List ℤ) (V B W : List (List ℤ)) → m ≡ n → B ≡ evm m (box_cells m lo hi) → W ≡ evm n (and_cells n (cells n V) (cells n B)) → W ≡ evm n (clip n lo hi (cells n V))
 unfolding clip

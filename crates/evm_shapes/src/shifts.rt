@@ -1,5 +1,5 @@
 // Shifts.
-ghost use Rattle.std.specs.Prelude.{◌≡◌, ◌↔◌, ◌++◌, ◌*◌, ◌<◌, ◌≤◌, ◌≤ℤ◌, ◌+ℤ◌, neg_ℤ, true, false, length, map, pos, IfOk, OnOk, IsErrOf};
+ghost use Rattle.std.specs.Prelude.{◌≡◌, ◌↔◌, ◌++◌, ◌<◌, ◌≤◌, ◌+ℤ◌, true, false, length, map, get_or, pos, IfOk, OnOk, IsErrOf};
 ghost use Rattle.std.specs.List.{list_all};
 ghost use Rattle.evm_cells.specs.Limits.{limit, is_point, is_point_coord};
 ghost use Rattle.evm_cells.specs.Shapes.{added, is_shift};
@@ -57,13 +57,13 @@ pub(crate) fn is_within(x: i64, dim: usize) -> bool
     -limit <= x && x <= limit
 }
 
-// The moved coordinate.
-fn sum(x: i32, by: i64, _dim: usize) -> i64
-    requires low { neg_ℤ (pos (2 * limit _dim)) ≤ℤ by }
-    requires high { by ≤ℤ pos (2 * limit _dim) }
-    ensures { result ≡ x +ℤ by }
+// The moved coordinate on an axis, which may be past the limits.
+fn sum(row: &[i32], by: &[i64], axis: usize) -> i64
+    requires shift { is_shift (length row.now) by.now ≡ true }
+    requires within { axis < length row.now }
+    ensures { result ≡ get_or row.now axis (pos 0) +ℤ get_or by.now axis (pos 0) }
 {
-    i64::from(x) + by
+    i64::from(row[axis]) + by[axis]
 }
 
 // Whether the moved row is a point.
@@ -73,7 +73,7 @@ fn row_fits(row: &[i32], by: &[i64]) -> bool
     ensures { result ≡ is_point (length row.now) (added by.now row.now) }
 {
     for k in 0..row.len() {
-        if !is_within(sum(row[k], by[k], row.len()), row.len()) {
+        if !is_within(sum(row, by, k), row.len()) {
             return false;
         }
     }
@@ -103,7 +103,7 @@ fn append_added(out: &mut Vec<i32>, row: &[i32], by: &[i64]) -> Result<(), Alloc
     ensures { OnOk result (out.new.items ≡ out.old.items ++ added by.now row.now) }
 {
     for k in 0..row.len() {
-        out.push(sum(row[k], by[k], row.len()) as i32)?;
+        out.push(sum(row, by, k) as i32)?;
     }
     Ok(())
 }

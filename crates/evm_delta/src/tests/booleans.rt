@@ -1,3 +1,4 @@
+use super::has_rows;
 use crate::delta2;
 use evm_boolean::Op2;
 use evm_rows::{NoMemory, Solid};
@@ -17,24 +18,12 @@ fn change(alloc: Global, op: Op2, both: bool) -> Result<Solid, NoMemory> {
     delta2(alloc, op, a.rows(), da.rows(), a.rows(), db)
 }
 
-fn has_rows(solid: &Solid, rows: &[[i32; 2]]) -> bool {
-    if solid.dim() != 2 || solid.len() != rows.len() {
-        return false;
-    }
-    for (i, row) in rows.iter().enumerate() {
-        if solid.coord(i, 1) != row[0] || solid.coord(i, 2) != row[1] {
-            return false;
-        }
-    }
-    true
-}
-
 #[test]
 fn changes_booleans(rt: HostRuntime) {
-    let square: &[[i32; 2]] = &[[1, 1], [1, 3], [3, 1], [3, 3]];
-    let middle: &[[i32; 2]] = &[[1, 1], [1, 2], [2, 1], [2, 2]];
-    let corner: &[[i32; 2]] = &[[1, 2], [1, 3], [2, 1], [2, 2], [3, 1], [3, 3]];
-    let table: [(Op2, bool, &[[i32; 2]]); 8] = [
+    let square: &[i32] = &[1, 1, 1, 3, 3, 1, 3, 3];
+    let middle: &[i32] = &[1, 1, 1, 2, 2, 1, 2, 2];
+    let corner: &[i32] = &[1, 2, 1, 3, 2, 1, 2, 2, 3, 1, 3, 3];
+    let table: [(Op2, bool, &[i32]); 8] = [
         (Op2::Or, true, square),
         (Op2::And, true, square),
         (Op2::Sub, true, &[]),
@@ -48,6 +37,6 @@ fn changes_booleans(rt: HostRuntime) {
         let Ok(solid) = change(rt.alloc(), op, both) else {
             panic!(rt; "there was no memory");
         };
-        assert!(rt; has_rows(&solid, rows), "{op:?} {both}");
+        assert!(rt; has_rows(&solid, 2, rows), "{op:?} {both}");
     }
 }

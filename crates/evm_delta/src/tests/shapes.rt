@@ -1,15 +1,11 @@
 ghost use Rattle.std.specs.Prelude.{◌≡◌};
 ghost use Rattle.evm_delta.specs.Shapes.{Fits};
 
+use super::has_rows;
 use crate::{DeltaError, Op1, delta1, shape};
 use evm_rows::Solid;
 use evm_script::Nums;
 use std::alloc::Global;
-
-// Whether the solid has these rows.
-fn has_rows(solid: &Solid, dim: usize, numbers: &[i32]) -> bool {
-    solid.dim() == dim && solid.rows().flat == numbers
-}
 
 // The shape of the cells (0, 0) and (1, 0), and its change where they become (0, 0) and (2, 0).
 fn change(alloc: Global, op: &Op1) -> Result<(Solid, Solid), DeltaError>

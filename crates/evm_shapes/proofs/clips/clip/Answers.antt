@@ -2,10 +2,11 @@ use Rattle.std.proofs.Common.{◌≡◌, ◌-◌, ◌<◌, ◌≤◌, ℕ, ℤ, 
 use Rattle.evm_cells.specs.Boxes.{box_cells}
 use Rattle.evm_cells.specs.Shapes.{clip}
 use Rattle.evm_cells.specs.Vertices.{evm, cells}
+use Rattle.evm_cells.proofs.Insides.{box_lengths, cell_set-clip}
 use Rattle.evm_rows.specs.Rows.{Vertices, rows_of}
 use Rattle.evm_rows.specs.View.{vertices_of}
 use Rattle.evm_shapes.proofs.Shaped.{cells_of}
-use Rattle.evm_shapes.proofs.Clipped.{box_lengths, cell_set-clip, clipped, and_rows, and_dim}
+use Rattle.evm_shapes.proofs.Clipped.{clipped, and_rows, and_dim}
 use Rattle.evm_shapes.proofs.clips.clip.Goals as goal
 
 pub of_box-requires : goal.of_box-requires
