@@ -1,9 +1,11 @@
 -- The numbers of the two corners of a box.
-use Rattle.std.proofs.Common.{◌≡◌, ℕ, zero, suc, Bool, true, ◌&&◌, List, [], ◌∷◌, take, drop, ℤ, int_lt, refl}
+use Rattle.std.proofs.Common.{◌≡◌, ℕ, zero, suc, Bool, true, false, ◌&&◌, List, [], ◌∷◌, take, drop, ℤ, pos, neg_ℤ, int_lt, refl, sym, ap₂, ◌∙◌}
 use Rattle.std.specs.List.{list_all}
 use Rattle.evm_cells.specs.Places.{each}
-use Rattle.evm_cells.specs.Limits.{is_point, is_point_coord}
+use Rattle.evm_cells.specs.Limits.{is_point, is_point_coord, limit}
 use Rattle.evm_cells.specs.Boxes.{is_box}
+use Rattle.evm_script.specs.Coordinates.{is_between}
+use Rattle.std.proofs.lemmas.Bool.{true≢false}
 use Rattle.evm_cells.proofs.Xor.{and_first, and_second, and_both}
 use Rattle.evm_cells.proofs.Universe.{point_parts}
 
@@ -20,3 +22,9 @@ corner_points n nums h =
     let low = point_parts n (take n nums) (and_first (is_point n (take n nums)) (is_point n (drop n nums)) both) in
     let high = point_parts n (drop n nums) (and_second (is_point n (take n nums)) (is_point n (drop n nums)) both) in
     all_parts (is_point_coord n) n nums low.1 high.1
+
+-- so none is past the limits
+pub none_outside : (n : ℕ) (nums : List ℤ) (lo hi : ℤ) → lo ≡ neg_ℤ (pos (limit n)) → hi ≡ pos (limit n) → is_box n (take n nums) (drop n nums) ≡ true → list_all (is_between lo hi) nums ≡ false → ⊥
+unfolding is_point_coord
+none_outside n nums lo hi a b h f =
+    true≢false (sym (corner_points n nums h) ∙ sym (ap₂ (λ l u. list_all (is_between l u) nums) a b) ∙ f)

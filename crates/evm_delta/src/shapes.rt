@@ -10,8 +10,8 @@ ghost use Rattle.evm_rows.specs.View.{vertices_of};
 ghost use Rattle.evm_delta.specs.Shapes.{Fits, op1_dim, op1_cells, in_range, shape_vertices, of_shape_error};
 ghost use Rattle.evm_delta.specs.declared.shapes.DeltaError.TheVariants as errors;
 
-use evm_rows::{NoMemory, Rows, Solid};
-use evm_script::{NUMS_MAX, Nums};
+use evm_rows::{NoMemory, Rows, Solid, limit};
+use evm_script::Nums;
 use evm_shapes::{ShapeError, clip, lift, mirror, project, shift, slice, swap};
 use std::alloc::Global;
 
@@ -62,38 +62,22 @@ impl From<ShapeError> for DeltaError {
     }
 }
 
-// The number, which is the coordinate of a point.
-fn coordinate(number: i64, _dim: usize) -> i32
-    requires { is_point_coord _dim number ≡ true }
-    ensures { result ≡ number }
-{
-    number as i32
-}
-
-// The numbers, which are coordinates of points, with zeros after them.
-fn coordinates(numbers: &[i64], dim: usize) -> [i32; NUMS_MAX]
-    requires few { length numbers.now ≤ 12 }
-    requires within { list_all (is_point_coord dim) numbers.now ≡ true }
-    ensures { take (length numbers.now) result ≡ numbers.now }
-{
-    let mut made = [0i32; NUMS_MAX];
-    for (i, n) in numbers.iter().enumerate() {
-        made[i] = coordinate(*n, dim);
-    }
-    made
-}
-
 // The cells in the box whose corners the numbers state.
-fn clipped(alloc: Global, a: Rows<'_>, numbers: &[i64]) -> Result<Solid, NoMemory>
-    requires both { length numbers.now ≡ 2 * (vertices_of a).dim }
-    requires is_box { is_box (vertices_of a).dim (take (vertices_of a).dim numbers.now) (drop (vertices_of a).dim numbers.now) ≡ true }
+fn clipped(alloc: Global, a: Rows<'_>, corners: &Nums) -> Result<Solid, NoMemory>
+    requires both { length corners.now ≡ 2 * (vertices_of a).dim }
+    requires is_box { is_box (vertices_of a).dim (take (vertices_of a).dim corners.now) (drop (vertices_of a).dim corners.now) ≡ true }
     ensures dim { IfOk result (λ s. s.dim ≡ (vertices_of a.entry).dim) }
-    ensures rows { IfOk result (λ s. s.rows ≡ evm (vertices_of a.entry).dim (clip (vertices_of a.entry).dim (take (vertices_of a.entry).dim numbers.now) (drop (vertices_of a.entry).dim numbers.now) (cells_of (vertices_of a.entry)))) }
+    ensures rows { IfOk result (λ s. s.rows ≡ evm (vertices_of a.entry).dim (clip (vertices_of a.entry).dim (take (vertices_of a.entry).dim corners.now) (drop (vertices_of a.entry).dim corners.now) (cells_of (vertices_of a.entry)))) }
 {
     let dim = a.dim();
-    let corners = coordinates(numbers, dim);
-    let (lo, hi) = corners[..2 * dim].split_at(dim);
-    clip(alloc, a, lo, hi)
+    let limit = limit(dim);
+    match corners.between(-limit, limit) {
+        Some(found) => {
+            let (lo, hi) = found.values().split_at(dim);
+            clip(alloc, a, lo, hi)
+        }
+        None => unreachable!(),
+    }
 }
 
 /// The shape of a solid, made anew. Takes the memory of the call of that shape.
@@ -112,7 +96,7 @@ pub fn shape(alloc: Global, op: &Op1, a: Rows<'_>) -> Result<Solid, DeltaError>
         Op1::Shift(by) => Ok(shift(alloc, a, by.values())?),
         Op1::Mirror(axis) => Ok(mirror(alloc, a, *axis)?),
         Op1::Swap(i, j) => Ok(swap(alloc, a, *i, *j)?),
-        Op1::Clip(corners) => Ok(clipped(alloc, a, corners.values())?),
+        Op1::Clip(corners) => Ok(clipped(alloc, a, corners)?),
         Op1::Slice(axis, at) => Ok(slice(alloc, a, *axis, *at)?),
         Op1::Proj(axis) => Ok(project(alloc, a, *axis)?),
         Op1::Lift(axis, lo, hi) => Ok(lift(alloc, a, *axis, *lo, *hi)?),

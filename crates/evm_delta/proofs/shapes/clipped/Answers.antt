@@ -1,10 +1,18 @@
-use Rattle.std.proofs.Common.{◌≡◌, ◌-◌, ℕ, true, List, ℤ, subst, sym}
-use Rattle.std.specs.List.{list_all}
-use Rattle.evm_cells.specs.Limits.{is_point_coord}
-use Rattle.evm_delta.proofs.Corners.{corner_points}
+use Rattle.std.proofs.Common.{◌≡◌, ◌-◌, ◌-ℤ◌, ◌∙◌, ℕ, ℤ, pos, neg_ℤ, SFits, w32, to_z, of_z, ap, arith, rules}
+use Rattle.std.proofs.lemmas.Int.{ints, to_z-of_z}
+use Rattle.evm_cells.specs.Limits.{limit}
+use Rattle.evm_cells.proofs.Coords.{limit-small}
+use Rattle.evm_delta.proofs.Corners.{none_outside}
 use Rattle.evm_delta.proofs.shapes.clipped.Goals as goal
 
-pub coordinates-corners-requires-clause-within : goal.coordinates-corners-requires-clause-within
-coordinates-corners-requires-clause-within c =
-    let nums : List ℤ = c.args.numbers.now in
-    subst (λ (n : ℕ). list_all (is_point_coord n) nums ≡ true) (sym c.dim-dim.ensures) (corner_points (c.args.a.width - c.args.a.skip) nums c.requires.is_box)
+pub unreachable-requires : goal.unreachable-requires
+unreachable-requires c =
+    let n : ℕ = c.args.a.width - c.args.a.skip in
+    let l : ℤ = c.limit-limit.result in
+    let e : l ≡ pos (limit n) = c.limit-limit.ensures ∙ ap (λ (k : ℕ). pos (limit k)) c.dim-dim.ensures in
+    let small = limit-small n in
+    let f : SFits w32 l = grind (arith, ints, e, small) in
+    let g : SFits w32 (pos 0 -ℤ l) = grind (arith, ints, e, small) in
+    let low : to_z w32 (of_z w32 (pos 0 -ℤ to_z w32 (of_z w32 l))) ≡ neg_ℤ (pos (limit n)) =
+    ap (λ (z : ℤ). to_z w32 (of_z w32 (pos 0 -ℤ z))) (to_z-of_z w32 l f) ∙ to_z-of_z w32 (pos 0 -ℤ l) g ∙ omega (arith, ints, e) in
+    none_outside n c.args.corners.now _ _ low (to_z-of_z w32 l f ∙ e) c.requires.is_box c.in-None.ensures

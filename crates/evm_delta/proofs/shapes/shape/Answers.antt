@@ -15,7 +15,7 @@ pub returns-in_ok-swap-in-Swap-clause-vertices : goal.returns-in_ok-swap-in-Swap
 returns-in_ok-swap-in-Swap-clause-vertices c = shaped c.args.op.now (Swap c.in-Swap.i c.in-Swap.j) (vertices_of c.args.a) c.in_ok-swap-in-Swap.field-0 c.in-Swap.is c.in_ok-swap-in-Swap.ensures.dim c.in_ok-swap-in-Swap.ensures.rows
 
 pub returns-in_ok-clipped-in-Clip-clause-vertices : goal.returns-in_ok-clipped-in-Clip-clause-vertices
-returns-in_ok-clipped-in-Clip-clause-vertices c = shaped c.args.op.now (Clip c.values-in-Clip.result.now) (vertices_of c.args.a) c.in_ok-clipped-in-Clip.field-0 (c.in-Clip.is ∙ ap Clip (sym c.values-in-Clip.ensures.value)) c.in_ok-clipped-in-Clip.ensures.dim c.in_ok-clipped-in-Clip.ensures.rows
+returns-in_ok-clipped-in-Clip-clause-vertices c = shaped c.args.op.now (Clip c.in-Clip.corners) (vertices_of c.args.a) c.in_ok-clipped-in-Clip.field-0 c.in-Clip.is c.in_ok-clipped-in-Clip.ensures.dim c.in_ok-clipped-in-Clip.ensures.rows
 
 pub returns-in_ok-slice-in-Slice-clause-vertices : goal.returns-in_ok-slice-in-Slice-clause-vertices
 returns-in_ok-slice-in-Slice-clause-vertices c =
