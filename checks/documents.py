@@ -3,7 +3,7 @@
 
 - names in backquotes of PROMISES, DEFINITIONS, ARCHITECTURE, DECISIONS and CONTRIBUTING are crates, files, functions, clauses or definitions that stand;
 - a row of PROMISES names functions of its crate, and clauses of theirs, and none that is public is left out; the laws of DEFINITIONS are those of
-  `evm_cells`; a row of ARCHITECTURE names a crate that crates.txt has, and what it stands on;
+  `evm_cells`; a row of ARCHITECTURE names a crate that crates.txt has, and what it stands on; the README has each crate, and functions of it;
 - links between documents, and the files that they name, are there;
 - tables are whole;
 - numbers that stand in several places agree.
@@ -165,7 +165,18 @@ def check_definitions(tally: Tally, crates: Crates):
                 tally.count(name in defined, f"docs/DEFINITIONS.md: {' and '.join(named)} defines no `{name}`")
 
 
-# The map of crates
+# The map of crates, and what is proved of each
+
+def check_proved(tally: Tally, crates: Crates):
+    """The table of the README: a row for each crate, which names functions of its own."""
+    section = DOCUMENTS["README.md"].partition("## What is proved")[2].partition("\n## ")[0]
+    rows = [row for _, (_, _, *body) in tables(section) for row in body]
+    carried = {name: names_in(row[-1]) for row in rows for name in names_in(row[0])}
+    tally.count(set(carried) == set(crates.stands_on), f"README.md and crates.txt differ in {set(carried) ^ set(crates.stands_on)}")
+    for crate in set(carried) & set(crates.stands_on):
+        for name in carried[crate]:
+            tally.count(name.split("::")[-1] in crates.contracts[crate], f"README.md: {crate} has no `{name}`")
+
 
 def check_crates(tally: Tally, crates: Crates):
     section = DOCUMENTS["docs/ARCHITECTURE.md"].partition("## Crates")[2].partition("\n## ")[0]
@@ -243,6 +254,7 @@ def main() -> int:
     check_promises(tally, crates)
     check_laws(tally, crates)
     check_definitions(tally, crates)
+    check_proved(tally, crates)
     check_crates(tally, crates)
     check_numbers(tally)
     check_constants(tally)
