@@ -27,7 +27,7 @@ SPAN = re.compile(r"`([^`\n]+)`")
 # What stands in backquotes and is no name of ours: words of the script language, of std and of other tools, and words of examples.
 WORDS = {word for form in cells.FORMS for word in form} | set("""
 ok no true false syntax missing shelf memory form range taken kind used cycle dim line
-Result Vec i32 pub rt python3 git out/ NEVM P5 FRAME H2 C420 evm-boxes zz
+Result Vec i32 pub requires rt python3 git out/ NEVM P5 FRAME H2 C420 evm-boxes zz
 """.split())
 
 
