@@ -6,11 +6,11 @@ use Rattle.evm_cells.specs.Vertices.{evm, cells}
 use Rattle.evm_cells.proofs.Universe.{cell_set-cells}
 use Rattle.evm_cells.proofs.Order.{refuted}
 use Rattle.evm_rows.specs.Rows.{Vertices, IsSolid}
-use Rattle.evm_file.specs.File.{file_bytes, file_of_cells, stated_dim, stated_rows, IsSolidCells}
-use Rattle.evm_file.specs.declared.FileError.{FileError}
-use Rattle.evm_file.specs.declared.FileError.TheVariants as files
-use Rattle.evm_file.proofs.Frames.{rows_of_file, dim_of_file}
-use Rattle.evm_file.proofs.FileRefusals.{err_with}
+use Rattle.evm_formats.specs.File.{file_bytes, file_of_cells, stated_dim, stated_rows, IsSolidCells}
+use Rattle.evm_formats.specs.declared.file.FileError.{FileError}
+use Rattle.evm_formats.specs.declared.file.FileError.TheVariants as files
+use Rattle.evm_formats.proofs.Frames.{rows_of_file, dim_of_file}
+use Rattle.evm_file.proofs.Reading.{err_with}
 use Rattle.evm_model.specs.Figures.{Figure}
 use Rattle.evm_model.specs.Files.{evm_figure}
 use Rattle.evm_scene.specs.Tables.{figure_of}

@@ -2,9 +2,9 @@
 use Rattle.std.proofs.Common.{◌≡◌, ℕ, ◌==◌, Bool, true, false, not, cond, List, [], ◌∷◌, ◌++◌, Option, Some, None, is_none, Result, Ok, Err, length, ℤ, nat_abs, refl, sym, ap, ◌∙◌, subst}
 use Rattle.std.proofs.lemmas.Bool.Decides.{Decides-eqb}
 use Rattle.evm_outside.specs.Shelves.{Files, KeepsFiles, HasFile, PlacesFile}
-use Rattle.evm_boxes.specs.BoxFile.{file_cells}
-use Rattle.evm_voxels.specs.Pgm.{pgm_cells}
-use Rattle.evm_voxels.specs.Y4m.{y4m_cells}
+use Rattle.evm_formats.specs.BoxFile.{file_cells}
+use Rattle.evm_formats.specs.Pgm.{pgm_cells}
+use Rattle.evm_formats.specs.Y4m.{y4m_cells}
 use Rattle.evm_script.specs.declared.command.Command.TheVariants as commands
 use Rattle.evm_script.specs.declared.files.LoadForm.{LoadForm}
 use Rattle.evm_script.specs.declared.files.LoadForm.TheVariants as forms

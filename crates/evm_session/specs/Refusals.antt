@@ -5,12 +5,12 @@ use Rattle.evm_outside.specs.declared.shelf.FetchError.{FetchError}
 use Rattle.evm_outside.specs.declared.shelf.FetchError.TheVariants as fetching
 use Rattle.evm_outside.specs.declared.shelf.PlaceError.{PlaceError}
 use Rattle.evm_outside.specs.declared.shelf.PlaceError.TheVariants as placing
-use Rattle.evm_file.specs.declared.FileError.{FileError}
-use Rattle.evm_file.specs.declared.FileError.TheVariants as files
-use Rattle.evm_boxes.specs.declared.BoxFileError.{BoxFileError}
-use Rattle.evm_boxes.specs.declared.BoxFileError.TheVariants as boxes
-use Rattle.evm_voxels.specs.declared.error.VoxelError.{VoxelError}
-use Rattle.evm_voxels.specs.declared.error.VoxelError.TheVariants as voxels
+use Rattle.evm_formats.specs.declared.file.FileError.{FileError}
+use Rattle.evm_formats.specs.declared.file.FileError.TheVariants as files
+use Rattle.evm_formats.specs.declared.boxes.BoxFileError.{BoxFileError}
+use Rattle.evm_formats.specs.declared.boxes.BoxFileError.TheVariants as boxes
+use Rattle.evm_formats.specs.declared.voxels.VoxelError.{VoxelError}
+use Rattle.evm_formats.specs.declared.voxels.VoxelError.TheVariants as voxels
 use Rattle.evm_model.specs.Edits as codes
 use Rattle.evm_scene.specs.declared.edit.Refusal.{Refusal as SceneRefusal}
 use Rattle.evm_scene.specs.declared.edit.Refusal.TheVariants as edits

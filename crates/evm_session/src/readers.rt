@@ -1,11 +1,11 @@
 //! Reads the bytes of a file in the form that a command names.
 
 ghost use Rattle.std.specs.Prelude.{◌≡◌, ◌≤◌, ◌<◌, ◌⊎◌, nat_abs, true};
-ghost use Rattle.evm_boxes.specs.BoxFile.{file_cells};
+ghost use Rattle.evm_formats.specs.BoxFile.{file_cells};
 ghost use Rattle.evm_model.specs.Files.{evm_figure, figure_stated, figure_in, is_threshold, form_fits, form_in_range};
 ghost use Rattle.evm_session.specs.Loads.{form_causes, image_causes, Tests, ReadsFigure};
-ghost use Rattle.evm_voxels.specs.Pgm.{pgm_cells};
-ghost use Rattle.evm_voxels.specs.Y4m.{y4m_cells};
+ghost use Rattle.evm_formats.specs.Pgm.{pgm_cells};
+ghost use Rattle.evm_formats.specs.Y4m.{y4m_cells};
 
 use super::refusals::Refusal;
 use evm_boxes::read_boxes;
