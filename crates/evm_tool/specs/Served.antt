@@ -2,7 +2,7 @@
 use Rattle.std.specs.Prelude.{ℕ, ◌≡◌, ◌≤◌, Bool, true, not, List, length, drop, Option, is_some, Result, Ok, Err}
 use Rattle.std.specs.Io.KnownBytes.{Appends}
 use Rattle.evm_outside.specs.declared.Failed.{Failed}
-use Rattle.evm_outside.specs.Shelves.{Climbed}
+use Rattle.evm_outside.specs.Causes.{Climbed, MayClimb}
 use Rattle.evm_model.specs.Scene.{Scene}
 use Rattle.evm_model.specs.Edits.{Shelf, Missing, Memory}
 use Rattle.evm_model.specs.Replies.{Reply, No, reply_text, is_no}
@@ -19,13 +19,13 @@ Sends (Err failed) before now reply = AppendsPart before now (reply_text reply)
 -- the shelf's count of faults over a line with this reply
 abbrev pub FaultsOver : Reply → ℕ → ℕ → Type 0
 FaultsOver (No Shelf) before now = Climbed before now
-FaultsOver (No Memory) before now = before ≤ now
+FaultsOver (No Memory) before now = MayClimb before now
 FaultsOver reply before now = now ≡ before
 
 -- the same of its count of misses
 abbrev pub MissesOver : Reply → ℕ → ℕ → Type 0
 MissesOver (No Missing) before now = Climbed before now
-MissesOver (No Memory) before now = before ≤ now
+MissesOver (No Memory) before now = MayClimb before now
 MissesOver reply before now = now ≡ before
 
 -- with one of the marks that a line may have, its reply went out, and the scene and the shelf are those after it

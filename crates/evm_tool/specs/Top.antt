@@ -1,15 +1,15 @@
 -- What a run reads, writes and places, by its status.
-use Rattle.std.specs.Prelude.{ℕ, ◌≡◌, ◌+◌, ◌-◌, ◌^◌, ◌<◌, ◌≤◌, min, Bool, true, false, List, [], ◌∷◌, ◌++◌, length, drop, count_by, Option, is_some, bytes_eq, codes}
+use Rattle.std.specs.Prelude.{ℕ, ◌≡◌, ◌+◌, ◌<◌, ◌≤◌, ◌⊎◌, Bool, true, false, List, [], ◌∷◌, ◌++◌, length, drop, count_by, Option, is_some, bytes_eq, codes}
 use Rattle.std.specs.List.{list_any}
-use Rattle.std.specs.Io.KnownBytes.{Appends, Keeps, IsAtEnd}
-use Rattle.evm_outside.specs.Causes.{Rose}
+use Rattle.std.specs.Io.KnownBytes.{Appends, Consumes, IsAtEnd}
+use Rattle.evm_outside.specs.Causes.{Rose, counter_last}
 use Rattle.evm_outside.specs.Shelves.{KeepsFiles}
 use Rattle.evm_model.specs.Scene.{start}
 use Rattle.evm_model.specs.Edits.{Shelf, Missing, Memory}
 use Rattle.evm_model.specs.Replies.{Reply, No, reply_text}
 use Rattle.evm_model.specs.Runs.{World, Mark, lines, answer, may_all_have, run, world_after, texts, some_no}
 use Rattle.evm_session.specs.Answers.{ShelfView, world_of, AreFiles}
-use Rattle.evm_tool.specs.Streams.{script_limit, TakesUpTo, TakesJust}
+use Rattle.evm_tool.specs.Streams.{script_limit}
 use Rattle.evm_tool.specs.declared.take.Cut.{Cut}
 use Rattle.evm_tool.specs.declared.take.Cut.TheVariants as cuts
 use Rattle.evm_tool.specs.declared.top.Status.{Status}
@@ -41,9 +41,9 @@ abbrev pub is_no_memory : Reply → Bool
 is_no_memory (No Memory) = true
 is_no_memory reply = false
 
--- a count rose by so much at least, or stands at the last value of a 64-bit counter
+-- a count rose by so much at least, or stands at just the last value of a 64-bit counter
 abbrev pub RoseBy : ℕ → ℕ → ℕ → Type 0
-RoseBy much before now = min (before + much) (2 ^ 64 - 1) ≤ now
+RoseBy much before now = (before + much ≤ now) ⊎ (now ≡ counter_last)
 
 -- a count over these replies: it rose once for each of one kind at least, and stays where there is none of this kind and none
 -- that says that memory was missing
@@ -105,39 +105,25 @@ pub record WritesTo (before now : Option (List ℕ)) (status : Status) (script :
   pub appended : Appends before now gained
   pub written : Writes status script gained shelf_before shelf_now
 
--- whatever the source tells, the shelf is as before where no line was answered
-abbrev pub SparesShelf : Status → ShelfView → ShelfView → Type 0
-SparesShelf Done before now = Unit {0}
-SparesShelf Refused before now = Unit {0}
-SparesShelf Words before now = KeepsShelf before now
-SparesShelf ReadFault before now = KeepsShelf before now
-SparesShelf WriteFault before now = Unit {0}
-SparesShelf NoMemory before now = KeepsShelf before now
-SparesShelf TooLong before now = KeepsShelf before now
+-- all known bytes are these, and they are no more than a script may have
+abbrev pub TakesAll : Option (List ℕ) → Option (List ℕ) → List ℕ → Type 0
+TakesAll before now taken = Consumes before now taken × IsAtEnd now × (length taken ≤ script_limit)
 
--- whatever the source tells, nothing is written where no line was answered
-abbrev pub Spares : Status → Option (List ℕ) → Option (List ℕ) → Type 0
-Spares Done before now = Unit {0}
-Spares Refused before now = Unit {0}
-Spares Words before now = Keeps before now
-Spares ReadFault before now = Keeps before now
-Spares WriteFault before now = Unit {0}
-Spares NoMemory before now = Keeps before now
-Spares TooLong before now = Keeps before now
+-- the bytes that were taken, of a source that tells them: all to the end, none, a front of them, or just one more than a script may have
+abbrev pub Takes : Status → Option (List ℕ) → Option (List ℕ) → List ℕ → Type 0
+Takes Done before now taken = TakesAll before now taken
+Takes Refused before now taken = TakesAll before now taken
+Takes Words before now taken = Consumes before now taken × (taken ≡ [])
+Takes ReadFault before now taken = Consumes before now taken × (length taken ≤ script_limit)
+Takes WriteFault before now taken = TakesAll before now taken
+Takes NoMemory before now taken = Consumes before now taken × (length taken ≤ script_limit + 1)
+Takes TooLong before now taken = Consumes before now taken × (length taken ≡ script_limit + 1)
 
--- all bytes were taken, and they are no more than a script may have
-abbrev pub TakesAll : Option (List ℕ) → Option (List ℕ) → Type 0
-TakesAll before now = IsAtEnd now × TakesUpTo before now script_limit
-
--- what was taken of a source that tells its bytes: all to the end, nothing, at most so many bytes, or just one too many
-abbrev pub Takes : Status → Option (List ℕ) → Option (List ℕ) → Type 0
-Takes Done before now = TakesAll before now
-Takes Refused before now = TakesAll before now
-Takes Words before now = Keeps before now
-Takes ReadFault before now = TakesUpTo before now script_limit
-Takes WriteFault before now = TakesAll before now
-Takes NoMemory before now = TakesUpTo before now (script_limit + 1)
-Takes TooLong before now = TakesJust before now (script_limit + 1)
+-- some bytes were taken, whatever they are, and what was written and left of the shelf is what a run of these bytes writes and leaves
+pub record Runs (status : Status) (left left_now written written_now : Option (List ℕ)) (shelf shelf_now : ShelfView) : Type 0 where
+  pub script : List ℕ
+  pub taken : Takes status left left_now script
+  pub writes : WritesTo written written_now status script shelf shelf_now
 
 -- the source's count of faults rose where a read fault is answered, and else it is as before
 abbrev pub ReadFaults : Status → ℕ → ℕ → Type 0

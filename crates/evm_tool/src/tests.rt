@@ -60,8 +60,28 @@ fn run(alloc: Global, script: Vec<u8>) -> Result<(Status, MemSink), Fail> {
     run_over(alloc, script, &mut no_files(alloc))
 }
 
-/// The boxes and what is asked of them, and the replies. The sign ` / ` stands between lines.
-const ANSWERED: [(&str, &str); 6] = [
+/// Runs a script over a shelf, and compares the replies and how it ends. The sign ` / ` stands between lines.
+fn expect(
+    rt: &HostRuntime,
+    shelf: &mut MemShelf,
+    script: &str,
+    replies: &str,
+    end: Status,
+) -> Result<(), Fail> {
+    let alloc = rt.alloc();
+    let (status, output) = run_over(alloc, lines_of(alloc, script)?.into_bytes(), shelf)?;
+    let wanted = lines_of(alloc, replies)?;
+    assert_eq!(rt;
+        str::from_utf8(output.bytes()),
+        Ok(wanted.as_str()),
+        "at {script}"
+    );
+    assert_eq!(rt; status, end, "at {script}");
+    Ok(())
+}
+
+/// Scripts of which no line is refused, and the replies: boxes and what is asked of them, then formulas, then shapes.
+const FINE: [(&str, &str); 11] = [
     (
         "input a 2 / toggle a 0 0 2 3 / show a",
         "ok 0 / ok 1 / ok 2 4 / 0 0 / 0 3 / 2 0 / 2 3",
@@ -86,26 +106,6 @@ const ANSWERED: [(&str, &str); 6] = [
         "input a 6 / add a -524288 -524288 -524288 -524288 -524288 -524288 524288 524288 524288 524288 524288 524288 / content a / boundary a",
         "ok 0 / ok 1 / ok 1329227995784915872903807060280344576 / ok 15211807202738752817960438464512",
     ),
-];
-
-#[test]
-fn boxes_are_added_and_measured(rt: HostRuntime) -> Result<(), Fail> {
-    let alloc = rt.alloc();
-    for (script, replies) in ANSWERED {
-        let (status, output) = run(alloc, lines_of(alloc, script)?.into_bytes())?;
-        let wanted = lines_of(alloc, replies)?;
-        assert_eq!(rt;
-            str::from_utf8(output.bytes()),
-            Ok(wanted.as_str()),
-            "at {script}"
-        );
-        assert_eq!(rt; status, Status::Done, "at {script}");
-    }
-    Ok(())
-}
-
-/// Scripts with formulas, and the replies.
-const DEFINED: [(&str, &str); 4] = [
     (
         "input a 2 / add a 0 0 2 2 / input b 2 / add b 1 1 3 3 / def c and a b / content c / list / cut b 1 1 2 2 / show c",
         "ok 0 / ok 1 / ok 0 / ok 1 / ok 0 / ok 1 / ok 3 / a 2 input / b 2 input / c 2 and a b / ok 2 / ok 2 0",
@@ -119,66 +119,26 @@ const DEFINED: [(&str, &str); 4] = [
         "ok 0 / ok 1 / ok 0 / ok 0 / ok 4 / ok 2 / ok 3 / a 2 input / s 2 xor a a / d 2 sub s a / ok 0 / ok 0 / ok 0 / ok 1 / a 2 input",
     ),
     ("list / input a 6 / list", "ok 0 / ok 0 / ok 1 / a 6 input"),
-];
-
-#[test]
-fn formulas_follow_their_operands(rt: HostRuntime) -> Result<(), Fail> {
-    let alloc = rt.alloc();
-    for (script, replies) in DEFINED {
-        let (status, output) = run(alloc, lines_of(alloc, script)?.into_bytes())?;
-        let wanted = lines_of(alloc, replies)?;
-        assert_eq!(rt;
-            str::from_utf8(output.bytes()),
-            Ok(wanted.as_str()),
-            "at {script}"
-        );
-        assert_eq!(rt; status, Status::Done, "at {script}");
-    }
-    Ok(())
-}
-
-/// Scripts with shapes, the replies, and how they end.
-const SHAPED: [(&str, &str, Status); 4] = [
-    (
-        "input a 2 / add a 0 0 1 1 / def s shift a 524287 0 / add a 1 0 2 1 / content a / show s",
-        "ok 0 / ok 1 / ok 0 / no range / ok 1 / ok 2 4 / 524287 0 / 524287 1 / 524288 0 / 524288 1",
-        Status::Refused,
-    ),
     (
         "input a 3 / add a 0 0 0 1 1 1 / add a 0 0 5 1 1 6 / project a 3 / section a 3 5 / section a 3 1",
         "ok 0 / ok 1 / ok 1 / ok 2 4 / 0 0 / 0 1 / 1 0 / 1 1 / ok 2 4 / 0 0 / 0 1 / 1 0 / 1 1 / ok 2 0",
-        Status::Done,
+    ),
+];
+
+/// Scripts of which some lines are refused, and the replies: shapes, then names, numbers and words.
+const REFUSED: [(&str, &str); 9] = [
+    (
+        "input a 2 / add a 0 0 1 1 / def s shift a 524287 0 / add a 1 0 2 1 / content a / show s",
+        "ok 0 / ok 1 / ok 0 / no range / ok 1 / ok 2 4 / 524287 0 / 524287 1 / 524288 0 / 524288 1",
     ),
     (
         "input a 2 / add a 0 0 2 1 / def m mirror a 1 / show m / def w swap a 1 2 / show w / def k clip a 1 0 5 5 / show k / def l lift a 3 4 6 / boundary l / def g slice l 3 5 / content g / def p proj l 3 / content p / def h slice a 1 0 / section a 1 0",
         "ok 0 / ok 1 / ok 0 / ok 2 4 / -2 0 / -2 1 / 0 0 / 0 1 / ok 0 / ok 2 4 / 0 0 / 0 2 / 1 0 / 1 2 / ok 0 / ok 2 4 / 1 0 / 1 1 / 2 0 / 2 1 / ok 0 / ok 16 / ok 0 / ok 2 / ok 0 / ok 2 / no dim / ok 1 2 / 0 / 1",
-        Status::Refused,
     ),
     (
         "input a 2 / add a 0 0 1 1 / add a 0 5 1 6 / def m mirror a 1 / def s shift m -524287 0 / add a 1 0 2 1 / content m / content s",
         "ok 0 / ok 1 / ok 1 / ok 0 / ok 0 / no range / ok 2 / ok 2",
-        Status::Refused,
     ),
-];
-
-#[test]
-fn shapes_are_formulas_and_questions(rt: HostRuntime) -> Result<(), Fail> {
-    let alloc = rt.alloc();
-    for (script, replies, end) in SHAPED {
-        let (status, output) = run(alloc, lines_of(alloc, script)?.into_bytes())?;
-        let wanted = lines_of(alloc, replies)?;
-        assert_eq!(rt;
-            str::from_utf8(output.bytes()),
-            Ok(wanted.as_str()),
-            "at {script}"
-        );
-        assert_eq!(rt; status, end, "at {script}");
-    }
-    Ok(())
-}
-
-/// Scripts of which some lines are refused, and the replies.
-const REFUSED: [(&str, &str); 6] = [
     (
         "input a 2 / add a 0 0 2 2 / input b 2 / add b 1 1 3 3 / def c and a b / def d or c a / def c or d a / def d or d a / content c",
         "ok 0 / ok 1 / ok 0 / ok 1 / ok 0 / ok 0 / no cycle / no cycle / ok 1",
@@ -206,17 +166,13 @@ const REFUSED: [(&str, &str); 6] = [
 ];
 
 #[test]
-fn a_refused_line_has_its_cause_and_changes_nothing(rt: HostRuntime) -> Result<(), Fail> {
+fn each_line_has_its_reply_and_a_refused_line_changes_nothing(rt: HostRuntime) -> Result<(), Fail> {
     let alloc = rt.alloc();
+    for (script, replies) in FINE {
+        expect(&rt, &mut no_files(alloc), script, replies, Status::Done)?;
+    }
     for (script, replies) in REFUSED {
-        let (status, output) = run(alloc, lines_of(alloc, script)?.into_bytes())?;
-        let wanted = lines_of(alloc, replies)?;
-        assert_eq!(rt;
-            str::from_utf8(output.bytes()),
-            Ok(wanted.as_str()),
-            "at {script}"
-        );
-        assert_eq!(rt; status, Status::Refused, "at {script}");
+        expect(&rt, &mut no_files(alloc), script, replies, Status::Refused)?;
     }
     Ok(())
 }

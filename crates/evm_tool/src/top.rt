@@ -1,8 +1,8 @@
 //! The top call.
 
-ghost use Rattle.std.specs.Prelude.{◌≡◌, map, IfSome, false, string_bytes};
+ghost use Rattle.std.specs.Prelude.{◌≡◌, ◌↔◌, map, IfSome, false, string_bytes};
 ghost use Rattle.evm_session.specs.Answers.{shelf_view};
-ghost use Rattle.evm_tool.specs.Top.{is_run, WritesTo, Spares, SparesShelf, Takes, ReadFaults, WriteFaults, Completes, cut_status, exit_code};
+ghost use Rattle.evm_tool.specs.Top.{is_run, Runs, ReadFaults, WriteFaults, Completes, cut_status, exit_code};
 
 use super::answers::answer_all;
 use super::take::{Cut, read_script};
@@ -66,7 +66,13 @@ fn names_run(words: &[String]) -> bool
     }
 }
 
-/// Answers the script that the source gives, after reading it whole.
+/// Whatever script it is given, `evm run` answers each line, after every accepted or refused edit before it, exactly as its
+/// formulas evaluated anew on sets of unit cells answer: vertices, content, boundary content, sections and projections; a
+/// refused edit changes nothing; and two solids of one dimension are saved in equal bytes exactly if they are equal point sets.
+///
+/// Premises: a source, a sink or a shelf that tells nothing of its bytes leaves open which bytes were read, have arrived or lie
+/// in files; only that the run is one of some bytes is then known. A count of faults that stands at the last value of its 64
+/// bits does not rise. At any line memory may be missing.
 ///
 /// `words` are those of the command line: the program's name, and `run`. A script has at most
 /// [`SCRIPT_LIMIT`](super::take::SCRIPT_LIMIT) bytes, and its lines end in LF or CR LF; the last may lack it. The
@@ -82,27 +88,20 @@ pub fn evm_main<I: Source, O: Sink, S: Shelf>(
     output: &mut O,
     shelf: &mut S,
 ) -> Status
-    // The replies to the lines of the script: whole at status 0 and 1, a front of them at 4, else nothing. The shelf is
-    // the one after the lines that were answered, and its counts tell of their replies.
-    ensures text { IfSome (I.left input.old) (λ script.
-        WritesTo (O.written output.old) (O.written output.new) result script
-        (shelf_view (S.files shelf.old) (S.faults shelf.old) (S.misses shelf.old))
-        (shelf_view (S.files shelf.new) (S.faults shelf.new) (S.misses shelf.new))) }
-    // Where no line was answered, nothing is written and the shelf is as before, whatever the source tells.
-    ensures spares { Spares result (O.written output.old) (O.written output.new) }
-    ensures shelf_spared { SparesShelf result
+    // Some bytes were taken, whatever the source tells of them, and the replies, the files and the shelf's counts are those of a
+    // run of these bytes: whole at status 0 and 1, a front of the replies at 4, else nothing.
+    ensures run { Runs result (I.left input.old) (I.left input.new) (O.written output.old) (O.written output.new)
         (shelf_view (S.files shelf.old) (S.faults shelf.old) (S.misses shelf.old))
         (shelf_view (S.files shelf.new) (S.faults shelf.new) (S.misses shelf.new)) }
     // Status 2 comes exactly where the words are not those of a run.
-    ensures words { result ≡ Status.Words → is_run (map string_bytes words.now) ≡ false }
-    ensures other_words { is_run (map string_bytes words.now) ≡ false → result ≡ Status.Words }
-    // What was taken: status 6 comes exactly where one byte more than the limit was, want of memory aside.
-    ensures taken { Takes result (I.left input.old) (I.left input.new) }
+    ensures words { (result ≡ Status.Words) ↔ (is_run (map string_bytes words.now) ≡ false) }
     // A fault is answered only where its count rose, and a count rises only then.
     ensures reads { ReadFaults result (I.faults input.old) (I.faults input.new) }
     ensures sends { WriteFaults result (O.faults output.old) (O.faults output.new) }
     // A run of a script that is not too long is answered, unless a count rose or memory was missing.
-    ensures complete { IfSome (I.left input.old) (λ script. Completes result (map string_bytes words.now) script (I.faults input.old) (I.faults input.new) (O.faults output.old) (O.faults output.new)) }
+    ensures complete { IfSome (I.left input.old) (λ script.
+        Completes result (map string_bytes words.now) script
+        (I.faults input.old) (I.faults input.new) (O.faults output.old) (O.faults output.new)) }
 {
     if !names_run(words) {
         return Status::Words;

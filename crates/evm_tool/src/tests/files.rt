@@ -2,7 +2,7 @@
 
 use super::super::take::PIECE;
 use super::super::top::{Status, evm_main};
-use super::{bytes_of, lines_of, no_files, run_over, words_of};
+use super::{bytes_of, expect, no_files, words_of};
 use evm_outside::{MemShelf, MemSink, MemSource};
 use std::alloc::Global;
 use std::str;
@@ -22,22 +22,6 @@ fn shelf_of(alloc: Global, bytes: &[u8], failing: u64) -> Result<MemShelf, Fail>
 /// What stands for no call: more than a run makes.
 const NEVER: u64 = 99;
 
-#[test]
-fn a_solid_is_saved_in_its_one_file(rt: HostRuntime) -> Result<(), Fail> {
-    let alloc = rt.alloc();
-    let mut shelf = no_files(alloc);
-    let script = "input a 2 / save a evm f / toggle a 0 0 2 3 / save a evm f / show a";
-    let (status, output) = run_over(alloc, lines_of(alloc, script)?.into_bytes(), &mut shelf)?;
-    let wanted = lines_of(
-        alloc,
-        "ok 0 / ok 16 / ok 1 / ok 48 / ok 2 4 / 0 0 / 0 3 / 2 0 / 2 3",
-    )?;
-    assert_eq!(rt; str::from_utf8(output.bytes()), Ok(wanted.as_str()));
-    assert_eq!(rt; status, Status::Done);
-    assert_eq!(rt; shelf.get(b"f"), Some(BOX_FILE));
-    Ok(())
-}
-
 /// Scripts that save equal solids, made in different ways, in the files `f` and `g`, and the replies.
 const EQUAL_SOLIDS: [(&str, &str); 3] = [
     (
@@ -55,18 +39,16 @@ const EQUAL_SOLIDS: [(&str, &str); 3] = [
 ];
 
 #[test]
-fn equal_solids_have_equal_files(rt: HostRuntime) -> Result<(), Fail> {
+fn a_solid_is_saved_in_its_one_file(rt: HostRuntime) -> Result<(), Fail> {
     let alloc = rt.alloc();
+    let mut shelf = no_files(alloc);
+    let script = "input a 2 / save a evm f / toggle a 0 0 2 3 / save a evm f / show a";
+    let replies = "ok 0 / ok 16 / ok 1 / ok 48 / ok 2 4 / 0 0 / 0 3 / 2 0 / 2 3";
+    expect(&rt, &mut shelf, script, replies, Status::Done)?;
+    assert_eq!(rt; shelf.get(b"f"), Some(BOX_FILE));
     for (script, replies) in EQUAL_SOLIDS {
         let mut shelf = no_files(alloc);
-        let (status, output) = run_over(alloc, lines_of(alloc, script)?.into_bytes(), &mut shelf)?;
-        let wanted = lines_of(alloc, replies)?;
-        assert_eq!(rt;
-            str::from_utf8(output.bytes()),
-            Ok(wanted.as_str()),
-            "at {script}"
-        );
-        assert_eq!(rt; status, Status::Done, "at {script}");
+        expect(&rt, &mut shelf, script, replies, Status::Done)?;
         assert_eq!(rt; shelf.get(b"f").is_some(), true, "at {script}");
         assert_eq!(rt; shelf.get(b"f"), shelf.get(b"g"), "at {script}");
     }
@@ -127,24 +109,6 @@ const LOADED: [(&[u8], &str, &str); 10] = [
     ),
 ];
 
-#[test]
-fn a_load_puts_the_solid_of_a_file_in_place_of_the_input(rt: HostRuntime) -> Result<(), Fail> {
-    let alloc = rt.alloc();
-    for (bytes, script, replies) in LOADED {
-        let mut shelf = shelf_of(alloc, bytes, NEVER)?;
-        let (status, output) = run_over(alloc, lines_of(alloc, script)?.into_bytes(), &mut shelf)?;
-        let wanted = lines_of(alloc, replies)?;
-        assert_eq!(rt;
-            str::from_utf8(output.bytes()),
-            Ok(wanted.as_str()),
-            "at {script}"
-        );
-        assert_eq!(rt; status, Status::Done, "at {script}");
-        assert_eq!(rt; shelf.get(b"f"), Some(bytes), "at {script}");
-    }
-    Ok(())
-}
-
 /// Forms, and files that are none of the form in dimension 2.
 const NO_FORM: [(&str, &[u8]); 21] = [
     // A head without rows, and one that states more rows than any file has.
@@ -191,24 +155,6 @@ const NO_FORM: [(&str, &[u8]); 21] = [
     ("y4m 128", b"YUV4MPEG2 W2 W2 H2\n"),
 ];
 
-#[test]
-fn a_file_of_another_form_is_refused(rt: HostRuntime) -> Result<(), Fail> {
-    let alloc = rt.alloc();
-    for (form, bytes) in NO_FORM {
-        let mut shelf = shelf_of(alloc, bytes, NEVER)?;
-        let script = format!(in alloc; "input a 2\nadd a 0 0 1 1\nload a {form} f\ncontent a\n")?;
-        let (status, output) = run_over(alloc, script.into_bytes(), &mut shelf)?;
-        assert_eq!(rt;
-            str::from_utf8(output.bytes()),
-            Ok("ok 0\nok 1\nno form\nok 1\n"),
-            "at {form} {bytes:?}"
-        );
-        assert_eq!(rt; status, Status::Refused, "at {form} {bytes:?}");
-        assert_eq!(rt; shelf.get(b"f"), Some(bytes), "at {form} {bytes:?}");
-    }
-    Ok(())
-}
-
 /// The number of the call that fails, scripts of which some lines are refused, and the replies. The file `f` is that of
 /// the box.
 const REFUSED: [(u64, &str, &str); 6] = [
@@ -246,19 +192,24 @@ const REFUSED: [(u64, &str, &str); 6] = [
 ];
 
 #[test]
-fn a_refused_load_or_save_changes_nothing(rt: HostRuntime) -> Result<(), Fail> {
+fn a_load_puts_the_solid_of_a_file_in_place_of_the_input(rt: HostRuntime) -> Result<(), Fail> {
     let alloc = rt.alloc();
+    for (bytes, script, replies) in LOADED {
+        let mut shelf = shelf_of(alloc, bytes, NEVER)?;
+        expect(&rt, &mut shelf, script, replies, Status::Done)?;
+        assert_eq!(rt; shelf.get(b"f"), Some(bytes), "at {script}");
+    }
     for (failing, script, replies) in REFUSED {
         let mut shelf = shelf_of(alloc, BOX_FILE, failing)?;
-        let (status, output) = run_over(alloc, lines_of(alloc, script)?.into_bytes(), &mut shelf)?;
-        let wanted = lines_of(alloc, replies)?;
-        assert_eq!(rt;
-            str::from_utf8(output.bytes()),
-            Ok(wanted.as_str()),
-            "at {script}"
-        );
-        assert_eq!(rt; status, Status::Refused, "at {script}");
+        expect(&rt, &mut shelf, script, replies, Status::Refused)?;
         assert_eq!(rt; shelf.get(b"f"), Some(BOX_FILE), "at {script}");
+    }
+    for (form, bytes) in NO_FORM {
+        let mut shelf = shelf_of(alloc, bytes, NEVER)?;
+        let script = format!(in alloc; "input a 2 / add a 0 0 1 1 / load a {form} f / content a")?;
+        let replies = "ok 0 / ok 1 / no form / ok 1";
+        expect(&rt, &mut shelf, script.as_str(), replies, Status::Refused)?;
+        assert_eq!(rt; shelf.get(b"f"), Some(bytes), "at {form} {bytes:?}");
     }
     Ok(())
 }
