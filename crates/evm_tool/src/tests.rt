@@ -81,7 +81,11 @@ fn expect(
 }
 
 /// Scripts of which no line is refused, and the replies: boxes and what is asked of them, then formulas, then shapes.
-const FINE: [(&str, &str); 11] = [
+const FINE: [(&str, &str); 12] = [
+    (
+        "input a 2 / add a -1073741824 -1073741824 1073741824 1073741824 / content a / boundary a",
+        "ok 0 / ok 1 / ok 4611686018427387904 / ok 8589934592",
+    ),
     (
         "input a 2 / toggle a 0 0 2 3 / show a",
         "ok 0 / ok 1 / ok 2 4 / 0 0 / 0 3 / 2 0 / 2 3",
@@ -126,17 +130,21 @@ const FINE: [(&str, &str); 11] = [
 ];
 
 /// Scripts of which some lines are refused, and the replies: shapes, then names, numbers and words.
-const REFUSED: [(&str, &str); 9] = [
+const REFUSED: [(&str, &str); 10] = [
     (
-        "input a 2 / add a 0 0 1 1 / def s shift a 524287 0 / add a 1 0 2 1 / content a / show s",
-        "ok 0 / ok 1 / ok 0 / no range / ok 1 / ok 2 4 / 524287 0 / 524287 1 / 524288 0 / 524288 1",
+        "input b 3 / def l lift b 4 0 1 / add b 268435455 0 0 268435457 1 1 / add b 268435455 0 0 268435456 1 1 / content l",
+        "ok 0 / ok 0 / no range / ok 2 / ok 1",
+    ),
+    (
+        "input a 2 / add a 0 0 1 1 / def s shift a 1073741823 0 / add a 1 0 2 1 / content a / show s",
+        "ok 0 / ok 1 / ok 0 / no range / ok 1 / ok 2 4 / 1073741823 0 / 1073741823 1 / 1073741824 0 / 1073741824 1",
     ),
     (
         "input a 2 / add a 0 0 2 1 / def m mirror a 1 / show m / def w swap a 1 2 / show w / def k clip a 1 0 5 5 / show k / def l lift a 3 4 6 / boundary l / def g slice l 3 5 / content g / def p proj l 3 / content p / def h slice a 1 0 / section a 1 0",
         "ok 0 / ok 1 / ok 0 / ok 2 4 / -2 0 / -2 1 / 0 0 / 0 1 / ok 0 / ok 2 4 / 0 0 / 0 2 / 1 0 / 1 2 / ok 0 / ok 2 4 / 1 0 / 1 1 / 2 0 / 2 1 / ok 0 / ok 16 / ok 0 / ok 2 / ok 0 / ok 2 / no dim / ok 1 2 / 0 / 1",
     ),
     (
-        "input a 2 / add a 0 0 1 1 / add a 0 5 1 6 / def m mirror a 1 / def s shift m -524287 0 / add a 1 0 2 1 / content m / content s",
+        "input a 2 / add a 0 0 1 1 / add a 0 5 1 6 / def m mirror a 1 / def s shift m -1073741823 0 / add a 1 0 2 1 / content m / content s",
         "ok 0 / ok 1 / ok 1 / ok 0 / ok 0 / no range / ok 2 / ok 2",
     ),
     (
@@ -144,7 +152,7 @@ const REFUSED: [(&str, &str); 9] = [
         "ok 0 / ok 1 / ok 0 / ok 1 / ok 0 / ok 0 / no cycle / no cycle / ok 1",
     ),
     (
-        "input a 2 / add a 0 0 2 2 / def f or a a / add zz 5 5 1 1 / def q and a zz / input a 7 / input z 7 / add f 0 0 1 1 / def a or a a / drop a / add a 0 0 0 1 1 1 / add a 0 0 0 1 / add a 524288 0 524289 1 / fly a / add a 0 0 1 12345678901 / content a",
+        "input a 2 / add a 0 0 2 2 / def f or a a / add zz 5 5 1 1 / def q and a zz / input a 7 / input z 7 / add f 0 0 1 1 / def a or a a / drop a / add a 0 0 0 1 1 1 / add a 0 0 0 1 / add a 1073741824 0 1073741825 1 / fly a / add a 0 0 1 12345678901 / content a",
         "ok 0 / ok 1 / ok 0 / no name / no name / no taken / no dim / no kind / no kind / no used / no dim / no range / no range / no syntax / no syntax / ok 4",
     ),
     (
@@ -152,7 +160,7 @@ const REFUSED: [(&str, &str); 9] = [
         "ok 0 / ok 1 / ok 0 / ok 0 / ok 0 / ok 0 / ok 0 / ok 4 / a 2 input / c 2 and e e / d 2 sub c a / e 2 and a a / ok 0 / no used",
     ),
     (
-        "input a 2 / add a 0 0 2 2 / add zz 5 5 1 1 / input a 7 / input z 7 / add a 0 0 0 1 1 1 / add a 0 0 0 1 / add a 524288 0 524289 1 / fly a / add a 0 0 1 12345678901 / content a",
+        "input a 2 / add a 0 0 2 2 / add zz 5 5 1 1 / input a 7 / input z 7 / add a 0 0 0 1 1 1 / add a 0 0 0 1 / add a 1073741824 0 1073741825 1 / fly a / add a 0 0 1 12345678901 / content a",
         "ok 0 / ok 1 / no name / no taken / no dim / no dim / no range / no range / no syntax / no syntax / ok 4",
     ),
     (

@@ -181,7 +181,7 @@ const REFUSED: [(u64, &str, &str); 6] = [
     ),
     (
         NEVER,
-        "input d 3 / load d evm f / input a 2 / def s shift a 524287 0 / load a evm f / show a",
+        "input d 3 / load d evm f / input a 2 / def s shift a 1073741823 0 / load a evm f / show a",
         "ok 0 / no form / ok 0 / ok 0 / no range / ok 2 0",
     ),
     (
