@@ -6,6 +6,7 @@ use super::take::{PIECE, SCRIPT_LIMIT};
 use super::top::{Status, evm_main};
 use evm_outside::{MemShelf, MemSink, MemSource};
 use std::alloc::{AllocError, Global};
+use std::process::Abort;
 use std::str;
 use std::test::Fail;
 
@@ -62,7 +63,7 @@ fn run(alloc: Global, script: Vec<u8>) -> Result<(Status, MemSink), Fail> {
 
 /// Runs a script over a shelf, and compares the replies and how it ends. The sign ` / ` stands between lines.
 fn expect(
-    rt: &HostRuntime,
+    rt: &(impl Abort + AllocGlobal),
     shelf: &mut MemShelf,
     script: &str,
     replies: &str,
