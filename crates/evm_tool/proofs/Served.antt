@@ -6,8 +6,8 @@ use Rattle.evm_cells.proofs.Xor.{and_both}
 use Rattle.evm_outside.specs.declared.Failed.{Failed}
 use Rattle.evm_model.specs.Scene.{Scene, start}
 use Rattle.evm_model.specs.Replies.{Reply, reply_text, is_no}
-use Rattle.evm_model.specs.Runs.{World, Mark, NoMemory, answer, may_have, lines, run, texts, some_no, world_after}
-use Rattle.evm_model.proofs.LineLaws.{lines_nil}
+use Rattle.evm_model.specs.Runs.{World, Mark, NoMemory, answer, may_have, run, texts, some_no, world_after}
+use Rattle.evm_text.specs.Lines.{lines}
 use Rattle.evm_model.proofs.RunLaws.{run_more, world_more, texts_more, some_no_more, drop_more, run_no_marks, after_no_marks, may_no_marks, may_more}
 use Rattle.evm_session.specs.Answers.{ShelfView, IsAnswered, IsAsBefore, world_of, AreFiles}
 use Rattle.evm_tool.specs.Streams.{AppendsPart}
@@ -202,26 +202,22 @@ progress_cut script rest line after old new a b c some f first s t p e v =
       };
     }
 
-none_left : (xs : List ℕ) → length xs ≡ 0 → lines xs ≡ []
-none_left [] h = lines_nil
-none_left (x ∷ xs) h = absurd (omega arith)
-
 progress_all : (ls : List (List ℕ)) (rest : List ℕ) (scene : Scene) (a b : Option (List ℕ)) (some : Bool) (first s : ShelfView) (p : Progress ls (lines rest) scene a b some first s)
-    → length rest ≡ 0 → Answers ls (texts (run (first_world first) ls p.marks)) some first s
+    → lines rest ≡ [] → Answers ls (texts (run (first_world first) ls p.marks)) some first s
 progress_all ls rest scene a b some first s p h = record {
   marks = p.marks;
-  each = omega (arith, p.most, ap length (p.left ∙ none_left rest h), length-drop (length p.marks) ls);
+  each = omega (arith, p.most, ap length (p.left ∙ h), length-drop (length p.marks) ls);
   shelf = p.shelf;
   text = refl;
   refused = p.refused;
 }
 
 -- all lines were answered and none was refused
-pub progress_done : (script rest : List ℕ) (scene : Scene) (a b : Option (List ℕ)) (first s : ShelfView) → Progress (lines script) (lines rest) scene a b false first s → length rest ≡ 0 → WritesTo a b Done script first s
+pub progress_done : (script rest : List ℕ) (scene : Scene) (a b : Option (List ℕ)) (first s : ShelfView) → Progress (lines script) (lines rest) scene a b false first s → lines rest ≡ [] → WritesTo a b Done script first s
 progress_done script rest scene a b first s p h =
     record { gained = texts (run (first_world first) (lines script) p.marks); appended = p.text; written = progress_all (lines script) rest scene a b false first s p h }
 
 -- all lines were answered and some was refused
-pub progress_refused : (script rest : List ℕ) (scene : Scene) (a b : Option (List ℕ)) (first s : ShelfView) → Progress (lines script) (lines rest) scene a b true first s → length rest ≡ 0 → WritesTo a b Refused script first s
+pub progress_refused : (script rest : List ℕ) (scene : Scene) (a b : Option (List ℕ)) (first s : ShelfView) → Progress (lines script) (lines rest) scene a b true first s → lines rest ≡ [] → WritesTo a b Refused script first s
 progress_refused script rest scene a b first s p h =
     record { gained = texts (run (first_world first) (lines script) p.marks); appended = p.text; written = progress_all (lines script) rest scene a b true first s p h }

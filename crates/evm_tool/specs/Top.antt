@@ -7,7 +7,8 @@ use Rattle.evm_outside.specs.Shelves.{KeepsFiles}
 use Rattle.evm_model.specs.Scene.{start}
 use Rattle.evm_model.specs.Edits.{Shelf, Missing, Memory}
 use Rattle.evm_model.specs.Replies.{Reply, No, reply_text}
-use Rattle.evm_model.specs.Runs.{World, Mark, lines, answer, may_all_have, run, world_after, texts, some_no}
+use Rattle.evm_model.specs.Runs.{World, Mark, answer, may_all_have, run, world_after, texts, some_no}
+use Rattle.evm_text.specs.Lines.{lines}
 use Rattle.evm_session.specs.Answers.{ShelfView, world_of, AreFiles}
 use Rattle.evm_tool.specs.Streams.{script_limit}
 use Rattle.evm_tool.specs.declared.take.Cut.{Cut}

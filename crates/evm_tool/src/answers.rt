@@ -1,9 +1,5 @@
 //! Answers the lines of a script.
 
-ghost use Rattle.std.specs.Prelude.{◌≡◌, ◌<◌, ◌∷◌, length, IfSome};
-ghost use Rattle.std.specs.List.{position};
-ghost use Rattle.evm_model.specs.Runs.{lines};
-ghost use Rattle.evm_model.proofs.LineLaws.{is_lf};
 ghost use Rattle.evm_outside.specs.Causes.{HasCause};
 ghost use Rattle.evm_session.specs.Answers.{shelf_view};
 ghost use Rattle.evm_tool.specs.Served.{Serves};
@@ -13,27 +9,8 @@ use super::send::send;
 use super::top::Status;
 use evm_outside::{Failed, Shelf, Sink};
 use evm_session::{NoMemory, Session};
+use evm_text::first_line;
 use std::alloc::Global;
-
-/// Where the first LF stands.
-fn first_lf(script: &[u8]) -> Option<usize>
-    ensures place { result ≡ position is_lf script.now }
-    ensures below { IfSome result (λ at. at < length script.now) }
-{
-    script.iter().position(|b| *b == b'\n')
-}
-
-/// The first line, without its LF, and what follows it.
-fn first_line(script: &[u8]) -> (&[u8], &[u8])
-    requires { 0 < length script.now }
-    ensures line { lines script.now ≡ result.0.now ∷ lines result.1.now }
-    ensures shorter { length result.1.now < length script.now }
-{
-    match first_lf(script) {
-        Some(at) => (&script[..at], &script[at + 1..]),
-        None => (script, &script[script.len()..]),
-    }
-}
 
 /// Answers one line, and says whether it was not refused. Want of memory is a reply too.
 ///
@@ -86,8 +63,7 @@ pub fn answer_all<O: Sink, S: Shelf>(
     let mut out = Vec::new(alloc);
     let mut refused = false;
     let mut rest = script;
-    while !rest.is_empty() {
-        let (line, after) = first_line(rest);
+    while let Some((line, after)) = first_line(rest) {
         let Ok(fine) = serve(alloc, &mut session, line, shelf, &mut out, output) else {
             return Status::WriteFault;
         };
