@@ -16,7 +16,7 @@ use Rattle.evm_member.specs.declared.outcome.Place.TheVariants as places
 use Rattle.evm_model.specs.Figures as figures
 use Rattle.evm_model.specs.Replies.{Measured, line_of, reply_text}
 use Rattle.evm_scene.specs.Tables.{figure_of}
-use Rattle.evm_session.specs.Numbers.{is_between}
+use Rattle.evm_script.specs.Coordinates.{is_between}
 use Rattle.evm_session.specs.Questions.{place_view}
 
 pub measured_text : (n : ℕ) → line_of (codes "ok " ++ decimal n) ≡ reply_text (Measured n)

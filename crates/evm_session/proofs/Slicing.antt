@@ -16,7 +16,7 @@ use Rattle.evm_model.specs.Replies.{Reply}
 use Rattle.evm_model.specs.Steps.{asked, stays, unless_refused}
 use Rattle.evm_model.proofs.Lookups.{found_passes}
 use Rattle.evm_scene.specs.Tables.{figure_of}
-use Rattle.evm_session.specs.Numbers.{is_between}
+use Rattle.evm_script.specs.Coordinates.{is_between}
 use Rattle.evm_session.proofs.Answering.{below_next}
 
 -- a name that stands has a dimension of named solids

@@ -1,4 +1,3 @@
-pub mod Numbers
 pub mod Says
 pub mod Answers
 pub mod Refusals

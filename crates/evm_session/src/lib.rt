@@ -25,7 +25,6 @@ mod answers;
 mod edits;
 mod files;
 mod lists;
-mod numbers;
 mod questions;
 mod readers;
 mod refusals;

@@ -7,7 +7,6 @@ ghost use Rattle.evm_session.specs.Carried.{Carries};
 ghost use Rattle.evm_session.specs.Questions.{filled_text, placed_text};
 ghost use Rattle.evm_script.specs.declared.command.Command.TheVariants as commands;
 
-use super::numbers::coordinates;
 use super::refusals::Refusal;
 use super::replies::{say, say_number, say_solid};
 use evm_measure as measure;
@@ -65,10 +64,10 @@ pub fn at(scene: &Scene, name: &Name, nums: &Nums, out: &mut Vec<u8>) -> Result<
         return Err(Refusal::Dim);
     }
     let limit = limit(dim);
-    let Some(cell) = coordinates(nums.values(), -limit, limit - 1) else {
+    let Some(cell) = nums.between(-limit, limit - 1) else {
         return Err(Refusal::Range);
     };
-    let filled = fills(solid.rows(), &cell[..dim]);
+    let filled = fills(solid.rows(), cell.values());
     say(out, filled_text(filled))?;
     Ok(())
 }
@@ -98,10 +97,10 @@ pub fn point(scene: &Scene, name: &Name, nums: &Nums, out: &mut Vec<u8>) -> Resu
         return Err(Refusal::Dim);
     }
     let limit = limit(dim);
-    let Some(point) = coordinates(nums.values(), -limit, limit) else {
+    let Some(point) = nums.between(-limit, limit) else {
         return Err(Refusal::Range);
     };
-    let place = place(solid.rows(), &point[..dim]);
+    let place = place(solid.rows(), point.values());
     say(out, placed_text(place))?;
     Ok(())
 }

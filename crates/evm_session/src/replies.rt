@@ -111,8 +111,8 @@ fn say_row(out: &mut Vec<u8>, row: &[i32]) -> Result<(), NoMemory>
     }
 }
 
-/// The most bytes of a coordinate in a reply, with the space or LF behind it: `-524288` and one more.
-const COORDINATE_BYTES: usize = 8;
+/// The most bytes of a coordinate in a reply, with the space or LF behind it: `-1073741824` and one more.
+const COORDINATE_BYTES: usize = 12;
 
 /// Appends each row as a line. The room for them is reserved once.
 fn say_rows(out: &mut Vec<u8>, rows: Rows<'_>) -> Result<(), NoMemory>

@@ -8,7 +8,6 @@ ghost use Rattle.evm_model.specs.Steps.{turn_of};
 ghost use Rattle.evm_session.specs.Carried.{Carries};
 ghost use Rattle.evm_script.specs.declared.command.Command.TheVariants as commands;
 
-use super::numbers::coordinate;
 use super::refusals::Refusal;
 use super::replies::say_solid;
 use evm_rows::limit;
@@ -37,7 +36,7 @@ fn height_of(at: &Num, dim: usize) -> Option<i32>
     ensures { MatchOption result (is_cell_coord dim at.now ≡ false) (λ found. (is_cell_coord dim at.now ≡ true) × (found ≡ at.now)) }
 {
     let limit = limit(dim);
-    coordinate(at.value(), -limit, limit - 1)
+    at.between(-limit, limit - 1)
 }
 
 /// The extreme vertices of the section at a height on an axis.

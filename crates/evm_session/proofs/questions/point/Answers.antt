@@ -1,4 +1,4 @@
-use Rattle.std.proofs.Common.{◌≡◌, ◌++◌, ◌==◌, List, ℕ, ℤ, true, false, pos, neg_ℤ, ◌-ℤ◌, take, length, to_z, of_z, w32, sym, ◌∙◌, refl, ap, subst, rules}
+use Rattle.std.proofs.Common.{◌≡◌, ◌++◌, ◌==◌, List, ℕ, ℤ, true, false, pos, neg_ℤ, ◌-ℤ◌, length, to_z, of_z, w32, sym, ◌∙◌, refl, ap, subst, rules}
 use Rattle.std.specs.List.{list_all}
 use Rattle.std.proofs.lemmas.Bool.Decides.{Decides-eqb}
 use Rattle.evm_cells.specs.Limits.{limit, is_point_coord}
@@ -14,16 +14,15 @@ use Rattle.evm_session.proofs.Answering.{place_found, is_a_point}
 use Rattle.evm_session.proofs.Answering.{between_points}
 use Rattle.evm_session.proofs.questions.point.Goals as goal
 
-pub returns-in_default-coordinates : goal.returns-in_default-coordinates
-returns-in_default-coordinates c =
+pub returns-in_default-between : goal.returns-in_default-between
+returns-in_default-between c =
     let v = c.in-Some.solid.now in
     let nums = c.args.nums.now in
     let high : to_z w32 (of_z w32 c.limit-limit.result) ≡ pos (limit c.dim-dim.result) = search rules in
     let low : to_z w32 (of_z w32 (pos 0 -ℤ to_z w32 (of_z w32 c.limit-limit.result))) ≡ neg_ℤ (pos (limit c.dim-dim.result)) = search rules in
     let out : list_all (is_point_coord v.dim) nums ≡ false =
     subst (λ (n : ℕ). list_all (is_point_coord n) nums ≡ false) c.dim-dim.ensures
-    (subst (λ (xs : List ℤ). list_all (is_point_coord c.dim-dim.result) xs ≡ false) c.values.ensures.value
-    (sym (between_points c.dim-dim.result c.values.result.now _ _ low high) ∙ c.in_default-coordinates.ensures)) in
+    (sym (between_points c.dim-dim.result nums _ _ low high) ∙ c.in_default-between.ensures) in
     let many : (length nums == v.dim) ≡ true = (Decides-eqb (length nums) v.dim).1 (sym c.len.ensures ∙ c.if-len-dim.false ∙ c.dim-dim.ensures) in
     (place_by c.args.scene.now c.args.name.now nums is_point_coord v.dim _ true false c.in-Some.ensures.value.0 c.in-Some.ensures.dim many out, refl, refl)
 
@@ -31,10 +30,9 @@ pub place-place-requires : goal.place-place-requires
 place-place-requires c =
     let high : to_z w32 (of_z w32 c.limit-limit.result) ≡ pos (limit c.dim-dim.result) = search rules in
     let low : to_z w32 (of_z w32 (pos 0 -ℤ to_z w32 (of_z w32 c.limit-limit.result))) ≡ neg_ℤ (pos (limit c.dim-dim.result)) = search rules in
-    let many = ap (length {A = ℤ}) c.values.ensures.value ∙ sym c.len.ensures ∙ c.if-len-dim.false in
-    let place = ap (λ (n : ℕ). take n c.in-Some-coordinates.point) (sym many) ∙ c.in-Some-coordinates.ensures.1 in
-    is_a_point c.dim-dim.result _ c.values.result.now _ place many (ap (λ (a : Vertices). a.dim) c.rows.ensures ∙ sym c.dim-dim.ensures)
-    (sym (between_points c.dim-dim.result c.values.result.now _ _ low high) ∙ c.in-Some-coordinates.ensures.0)
+    let place = c.values.ensures ∙ c.in-Some-between.ensures.1 in
+    is_a_point c.dim-dim.result _ c.args.nums.now _ place (sym c.len.ensures ∙ c.if-len-dim.false) (ap (λ (a : Vertices). a.dim) c.rows.ensures ∙ sym c.dim-dim.ensures)
+    (sym (between_points c.dim-dim.result c.args.nums.now _ _ low high) ∙ c.in-Some-between.ensures.0)
 
 pub returns : goal.returns
 returns c =
@@ -46,13 +44,11 @@ returns c =
     let low : to_z w32 (of_z w32 (pos 0 -ℤ to_z w32 (of_z w32 c.limit-limit.result))) ≡ neg_ℤ (pos (limit c.dim-dim.result)) = search rules in
     let within : list_all (is_point_coord v.dim) nums ≡ true =
     subst (λ (n : ℕ). list_all (is_point_coord n) nums ≡ true) c.dim-dim.ensures
-    (subst (λ (xs : List ℤ). list_all (is_point_coord c.dim-dim.result) xs ≡ true) c.values.ensures.value
-    (sym (between_points c.dim-dim.result c.values.result.now _ _ low high) ∙ c.in-Some-coordinates.ensures.0)) in
-    let both = ap (length {A = ℤ}) c.values.ensures.value ∙ sym c.len.ensures ∙ c.if-len-dim.false in
-    let place = ap (λ (n : ℕ). take n c.in-Some-coordinates.point) (sym both) ∙ c.in-Some-coordinates.ensures.1 ∙ c.values.ensures.value in
+    (sym (between_points c.dim-dim.result nums _ _ low high) ∙ c.in-Some-between.ensures.0) in
+    let place = c.values.ensures ∙ c.in-Some-between.ensures.1 in
     let many : (length nums == v.dim) ≡ true = (Decides-eqb (length nums) v.dim).1 (sym c.len.ensures ∙ c.if-len-dim.false ∙ c.dim-dim.ensures) in
     let placed : place_view c.place-place.result ≡ place_of (value scene name) nums =
-    ap place_view (c.place-place.ensures ∙ ap (λ (a : Vertices). place_in a.dim (cells a.dim a.rows) (take c.dim-dim.result c.in-Some-coordinates.point)) c.rows.ensures ∙ ap (place_in v.dim (cells v.dim v.rows)) place)
+    ap place_view (c.place-place.ensures ∙ ap (λ (a : Vertices). place_in a.dim (cells a.dim a.rows) c.values.result.now) c.rows.ensures ∙ ap (place_in v.dim (cells v.dim v.rows)) place)
     ∙ place_found v nums
     ∙ ap (λ (a : Figure). place_of a nums) c.in-Some.ensures.value.1 in
     let text = c.in_ok-say.ensures ∙ ap (λ (t : List ℕ). c.args.out.now.items ++ t) (c.placed_text.ensures ∙ ap (λ (x : Place). reply_text (Placed x)) placed) in

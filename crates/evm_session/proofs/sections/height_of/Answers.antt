@@ -1,7 +1,7 @@
-use Rattle.std.proofs.Common.{◌≡◌, Bool, true, false, ℤ, pos, neg_ℤ, ◌-ℤ◌, to_z, of_z, w32, w64, ◌∙◌, subst, rules}
+use Rattle.std.proofs.Common.{◌≡◌, Bool, true, false, ℤ, pos, neg_ℤ, ◌-ℤ◌, to_z, of_z, w32, ◌∙◌, subst, rules}
 use Rattle.std.specs.Prelude.{MatchOption}
 use Rattle.evm_cells.specs.Limits.{limit}
-use Rattle.evm_session.specs.Numbers.{is_between}
+use Rattle.evm_script.specs.Coordinates.{is_between}
 use Rattle.evm_session.proofs.Slicing.{between_heights}
 use Rattle.evm_session.proofs.sections.height_of.Goals as goal
 
@@ -11,7 +11,6 @@ returns c =
     let high = to_z w32 (of_z w32 (to_z w32 (of_z w32 c.limit-limit.result) -ℤ pos 1)) in
     let least : low ≡ neg_ℤ (pos (limit c.args.dim)) = search rules in
     let greatest : high ≡ pos (limit c.args.dim) -ℤ pos 1 = search rules in
-    let same : to_z w64 (of_z w64 c.value.result) ≡ c.value.result = search rules in
-    subst (λ (b : Bool). MatchOption c.coordinate.result (b ≡ false) (λ (found : ℤ). (b ≡ true) × (found ≡ c.args.at.now)))
+    subst (λ (b : Bool). MatchOption c.between.result (b ≡ false) (λ (found : ℤ). (b ≡ true) × (found ≡ c.args.at.now)))
     (between_heights c.args.dim c.args.at.now low high least greatest)
-    (subst (λ (x : ℤ). MatchOption c.coordinate.result (is_between low high x ≡ false) (λ (found : ℤ). (is_between low high x ≡ true) × (found ≡ x))) (same ∙ c.value.ensures.value) c.coordinate.ensures)
+    c.between.ensures
