@@ -13,7 +13,7 @@ use Rattle.evm_cells.proofs.Order.{refuted}
 use Rattle.evm_rows.specs.Rows.{Vertices}
 use Rattle.evm_model.specs.Figures.{Figure, box_of, box_fits}
 use Rattle.evm_scene.specs.Tables.{figure_of}
-use Rattle.evm_scene.specs.Combined.{is_between}
+use Rattle.evm_script.specs.Coordinates.{is_between}
 use Rattle.evm_scene.proofs.Figures.{figure_with}
 
 -- a box as a figure

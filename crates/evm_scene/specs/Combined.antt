@@ -1,5 +1,5 @@
 -- Booleans and boxes as figures.
-use Rattle.std.specs.Prelude.{ℕ, ◌≡◌, Bool, true, false, ◌&&◌, int_le, ℤ, List, Result, Ok, Err}
+use Rattle.std.specs.Prelude.{ℕ, ◌≡◌, true, false, ℤ, List, Result, Ok, Err}
 use Rattle.evm_rows.specs.Rows.{Vertices}
 use Rattle.evm_boolean.specs.declared.boolean.Op2.{Op2}
 use Rattle.evm_boolean.specs.declared.boolean.Op2.TheVariants as ops
@@ -14,10 +14,6 @@ combine_of ops.Or a b = or_of a b
 combine_of ops.And a b = and_of a b
 combine_of ops.Sub a b = sub_of a b
 combine_of ops.Xor a b = xor_of a b
-
--- a number from low to high
-abbrev pub is_between : ℤ → ℤ → ℤ → Bool
-is_between low high n = int_le low n && int_le n high
 
 -- the box that numbers state in a dimension; a refusal by the numbers comes exactly where there is no such box
 abbrev pub MakesBox : Result Vertices Refusal → ℕ → List ℤ → Type 0

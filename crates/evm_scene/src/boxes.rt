@@ -76,7 +76,7 @@ fn planned(
     if nums.len() != 2 * node.dim {
         return Err(Refusal::Dim);
     }
-    let cuboid = match box_of(alloc, node.dim, nums.values()) {
+    let cuboid = match box_of(alloc, node.dim, nums) {
         Ok(cuboid) => cuboid,
         Err(refusal) => return Err(refusal),
     };

@@ -184,6 +184,6 @@ pub fn evaluate(
     match operation_of(formula, dim) {
         Operation::Both { op, a, b } => Ok(both(alloc, table, op, &a, &b)?),
         Operation::Shape { op, a } => Ok(one(alloc, table, &op, &a)?),
-        Operation::Block { nums } => box_of(alloc, dim, nums.values()),
+        Operation::Block { nums } => box_of(alloc, dim, &nums),
     }
 }

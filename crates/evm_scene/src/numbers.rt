@@ -1,13 +1,12 @@
-//! Numbers of a line as dimensions and coordinates.
+//! Numbers of a line as dimensions and boxes.
 
-ghost use Rattle.std.specs.Prelude.{◌≡◌, ◌≤◌, ◌<◌, ◌*◌, pos, nat_abs, length, take, true, false, MatchOption};
-ghost use Rattle.std.specs.List.{list_all};
+ghost use Rattle.std.specs.Prelude.{◌≡◌, ◌≤◌, ◌<◌, ◌*◌, pos, nat_abs, length, true, false, MatchOption};
 ghost use Rattle.evm_model.specs.Scene.{is_dim};
-ghost use Rattle.evm_scene.specs.Combined.{is_between, MakesBox};
+ghost use Rattle.evm_scene.specs.Combined.{MakesBox};
 
 use super::edit::Refusal;
 use evm_rows::{BoxError, Solid, limit};
-use evm_script::{NUMS_MAX, Num};
+use evm_script::{Num, Nums};
 use std::alloc::Global;
 
 /// The dimension that a number states, or `None` exactly where named solids have no such dimension.
@@ -22,44 +21,18 @@ pub fn stated(dim: Num) -> Option<usize>
     }
 }
 
-/// A number as a coordinate, or `None` exactly where it is not from `low` to `high`.
-fn coordinate(n: i64, low: i32, high: i32) -> Option<i32>
-    ensures { MatchOption result (is_between low high n ≡ false) (λ x. (is_between low high n ≡ true) × (x ≡ n)) }
-{
-    if i64::from(low) <= n && n <= i64::from(high) {
-        Some(n as i32)
-    } else {
-        None
-    }
-}
-
-/// The numbers as coordinates, with zeros after them, or `None` exactly where one is not from `low` to `high`.
-pub fn coordinates(numbers: &[i64], low: i32, high: i32) -> Option<[i32; NUMS_MAX]>
-    requires { length numbers.now ≤ 12 }
-    ensures { MatchOption result (list_all (is_between low high) numbers.now ≡ false) (λ made. (list_all (is_between low high) numbers.now ≡ true) × (take (length numbers.now) made ≡ numbers.now)) }
-{
-    let mut made = [0i32; NUMS_MAX];
-    for (i, n) in numbers.iter().enumerate() {
-        match coordinate(*n, low, high) {
-            Some(x) => made[i] = x,
-            None => return None,
-        }
-    }
-    Some(made)
-}
-
 /// The box whose lower and upper corner the numbers state.
-pub fn box_of(alloc: Global, dim: usize, numbers: &[i64]) -> Result<Solid, Refusal>
+pub fn box_of(alloc: Global, dim: usize, numbers: &Nums) -> Result<Solid, Refusal>
     requires low { 0 < dim }
     requires high { dim ≤ 6 }
     requires both { length numbers.now ≡ 2 * dim }
     ensures { MakesBox result dim numbers.now }
 {
     let limit = limit(dim);
-    let Some(corners) = coordinates(numbers, -limit, limit) else {
+    let Some(corners) = numbers.between(-limit, limit) else {
         return Err(Refusal::Range);
     };
-    let (lo, hi) = corners[..numbers.len()].split_at(dim);
+    let (lo, hi) = corners.values().split_at(dim);
     match Solid::of_box(alloc, lo, hi) {
         Ok(solid) => Ok(solid),
         Err(BoxError::Range) => Err(Refusal::Range),

@@ -7,7 +7,7 @@ ghost use Rattle.evm_cells.specs.Shapes.{is_shift};
 ghost use Rattle.evm_cells.specs.Boxes as boxes;
 ghost use Rattle.evm_model.specs.Figures.{box_fits, low_of, high_of};
 ghost use Rattle.evm_model.specs.Scene as model;
-ghost use Rattle.evm_scene.specs.Combined.{is_between};
+ghost use Rattle.evm_script.specs.Coordinates.{is_between};
 
 use evm_rows::limit;
 use evm_script::Num;

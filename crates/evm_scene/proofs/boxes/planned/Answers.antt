@@ -1,5 +1,4 @@
-use Rattle.std.proofs.Common.{◌≡◌, ◌*◌, ◌==◌, true, false, is_some, rules, sym, subst, length, List, ℤ, Ok, Err}
-use Rattle.evm_scene.specs.Combined.{MakesBox}
+use Rattle.std.proofs.Common.{◌≡◌, ◌*◌, ◌==◌, true, false, is_some, rules, sym, length}
 use Rattle.evm_scene.proofs.Planned.{absent, formula_refused, dim_refused, box_refused, plan}
 use Rattle.evm_scene.proofs.boxes.planned.Goals as goal
 
@@ -22,12 +21,12 @@ returns-in-Err c =
     let made : is_some c.in-Some.node.now.formula ≡ false = search rules in
     let sized : (length c.args.nums.now == 2 * c.in-Some.node.now.dim) ≡ true = search rules in
     box_refused c.args.edit c.args.table.now.entries c.args.name.now c.args.nums.now c.in-Some.node.now (sym c.in-Some.ensures.value) made sized c.in-Err.refusal
-    (subst (λ (xs : List ℤ). MakesBox (Err c.in-Err.refusal) c.in-Some.node.now.dim xs) c.values.ensures.value c.in-Err.ensures)
+    c.in-Err.ensures
 
 pub returns-in-Ok-box_change : goal.returns-in-Ok-box_change
 returns-in-Ok-box_change c =
     let made : is_some c.in-Some.node.now.formula ≡ false = search rules in
     let sized : (length c.args.nums.now == 2 * c.in-Some.node.now.dim) ≡ true = search rules in
     plan c.args.edit c.args.table.now.entries c.args.name.now c.args.nums.now c.in-Some.node.now (sym c.in-Some.ensures.value) c.in-Ok.cuboid c.in-Ok-box_change.change c.requires.values made sized
-    (subst (λ (xs : List ℤ). MakesBox (Ok c.in-Ok.cuboid) c.in-Some.node.now.dim xs) c.values.ensures.value c.in-Ok.ensures)
+    c.in-Ok.ensures
     c.in-Ok-box_change.ensures.after c.in-Ok-box_change.ensures.change

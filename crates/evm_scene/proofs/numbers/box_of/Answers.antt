@@ -12,14 +12,14 @@ returns-in_default c =
 
 pub returns-in-Err-Range : goal.returns-in-Err-Range
 returns-in-Err-Range c =
-    let lo = c.split_at.ensures.front ∙ ap (take c.args.dim) c.in-Some.ensures.1 in
-    let hi = c.split_at.ensures.back ∙ ap (drop c.args.dim) c.in-Some.ensures.1 in
+    let lo = c.split_at.ensures.front ∙ ap (take c.args.dim) (c.values.ensures ∙ c.in-Some.ensures.1) in
+    let hi = c.split_at.ensures.back ∙ ap (drop c.args.dim) (c.values.ensures ∙ c.in-Some.ensures.1) in
     fits_by c.args.dim c.args.numbers.now c.split_at.result.0.now c.split_at.result.1.now _ lo hi (c.in-Err-Range.ensures.range.0 (ap Err c.in-Err-Range.field-0-is))
 
 pub returns-in-Ok : goal.returns-in-Ok
 returns-in-Ok c =
-    let lo = c.split_at.ensures.front ∙ ap (take c.args.dim) c.in-Some.ensures.1 in
-    let hi = c.split_at.ensures.back ∙ ap (drop c.args.dim) c.in-Some.ensures.1 in
+    let lo = c.split_at.ensures.front ∙ ap (take c.args.dim) (c.values.ensures ∙ c.in-Some.ensures.1) in
+    let hi = c.split_at.ensures.back ∙ ap (drop c.args.dim) (c.values.ensures ∙ c.in-Some.ensures.1) in
     let fits = must_fit (is_box (length c.split_at.result.0.now) c.split_at.result.0.now c.split_at.result.1.now) (λ e. let clash = c.in-Ok.ensures.range.1 e in cc) in
     let made = box_by c.args.dim c.args.numbers.now c.split_at.result.0.now c.split_at.result.1.now c.in-Ok.solid lo hi c.in-Ok.ensures.dim c.in-Ok.ensures.cells in (
       fits_by c.args.dim c.args.numbers.now c.split_at.result.0.now c.split_at.result.1.now _ lo hi fits,
