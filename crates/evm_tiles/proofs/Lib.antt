@@ -1,0 +1,5 @@
+pub mod Planes
+pub mod Parts
+pub mod Trees
+pub mod Showing
+pub mod Thin

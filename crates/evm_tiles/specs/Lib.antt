@@ -1,0 +1,4 @@
+pub mod Sides
+pub mod Splits
+pub mod Trees
+pub mod Shown

@@ -1,0 +1,349 @@
+//! Nodes of a tree of tiles.
+
+ghost use Rattle.evm_cells.specs.Windows.{is_under, is_over};
+ghost use Rattle.std.specs.Prelude.{◌≡◌, ◌<◌, ◌≤◌, ◌<ℤ◌, neg_ℤ, pos, true, length, IfOk, IfSome};
+ghost use Rattle.std.specs.List.{list_all};
+ghost use Rattle.evm_cells.specs.Boxes.{is_box};
+ghost use Rattle.evm_cells.specs.Limits.{limit};
+ghost use Rattle.evm_cells.specs.Shapes.{clip};
+ghost use Rattle.evm_rows.specs.Rows.{cells_of};
+ghost use Rattle.evm_rows.specs.View.{vertices_of};
+ghost use Rattle.evm_tiles.specs.Trees.{node_cells, node_window, is_well, IsBoth, IsChanged, IsOne};
+ghost use Rattle.evm_tiles.specs.Splits.{IsBetween, IsSplit};
+
+use crate::solids::{Side, both, over, side_of, under};
+use evm_rows::{NoMemory, Rows, Solid, limit, xor};
+use evm_shapes::clip;
+use std::alloc::Global;
+use std::rc::Rc;
+
+/// How many rows a leaf has at most where an edit met it, if it can be cut.
+const LEAF: usize = 128;
+
+/// How often a leaf is cut again at most.
+const DEEP: usize = 64;
+
+/// A tile: a leaf with the part of the solid inside it, or a cut of it in two.
+#[derive(Drop)]
+pub(crate) enum Node {
+    /// The part inside, and how many rows it may have before the tile is cut.
+    Leaf {
+        solid: Solid,
+        most: usize,
+    },
+    /// The axis, counted from 0, the height on it, what is below that and what is above.
+    Cut {
+        axis: usize,
+        at: i32,
+        low: Rc<Node>,
+        high: Rc<Node>,
+    },
+}
+
+impl Node {
+    /// All cells.
+    pub(crate) fn whole(&self, alloc: Global, _dim: usize) -> Result<Solid, NoMemory>
+        requires { is_well _dim self.now ≡ true }
+        ensures dim { IfOk result (λ s. s.dim ≡ _dim) }
+        ensures cells { IfOk result (λ s. cells_of s ≡ node_cells _dim self.now) }
+    {
+        match self {
+            Node::Leaf { solid, .. } => {
+                let made = solid.copy(alloc)?;
+                Ok(made)
+            }
+            Node::Cut { low, high, .. } => {
+                let below = low.whole(alloc, _dim)?;
+                let above = high.whole(alloc, _dim)?;
+                let made = both(alloc, &below, &above)?;
+                Ok(made)
+            }
+        }
+    }
+
+    /// The cells in a box. Only the leaves whose tiles the box meets are looked at.
+    pub(crate) fn window(&self, alloc: Global, lo: &[i32], hi: &[i32]) -> Result<Solid, NoMemory>
+        requires few { length lo.now ≤ 6 }
+        requires well { is_well (length lo.now) self.now ≡ true }
+        requires inside { is_box (length lo.now) lo.now hi.now ≡ true }
+        ensures dim { IfOk result (λ s. s.dim ≡ length lo.now) }
+        ensures cells { IfOk result (λ s. cells_of s ≡ node_window self.now lo.now hi.now) }
+    {
+        match self {
+            Node::Leaf { solid, .. } => {
+                let part = clip(alloc, solid.rows(), lo, hi)?;
+                Ok(part)
+            }
+            Node::Cut {
+                axis,
+                at,
+                low,
+                high,
+            } => {
+                if hi[*axis] <= *at {
+                    let part = low.window(alloc, lo, hi)?;
+                    Ok(part)
+                } else if *at <= lo[*axis] {
+                    let part = high.window(alloc, lo, hi)?;
+                    Ok(part)
+                } else {
+                    let below = low.window(alloc, lo, hi)?;
+                    let above = high.window(alloc, lo, hi)?;
+                    let part = both(alloc, &below, &above)?;
+                    Ok(part)
+                }
+            }
+        }
+    }
+}
+
+/// A leaf.
+fn leaf(alloc: Global, solid: Solid, most: usize) -> Result<Rc<Node>, NoMemory>
+    ensures well { IfOk result (λ t. is_well solid.dim t.value ≡ true) }
+    ensures cells { IfOk result (λ t. node_cells solid.dim t.value ≡ cells_of solid) }
+{
+    let node = Rc::new(alloc, Node::Leaf { solid, most })?;
+    Ok(node)
+}
+
+/// A cut.
+fn cut(
+    alloc: Global,
+    _dim: usize,
+    axis: usize,
+    at: i32,
+    low: Rc<Node>,
+    high: Rc<Node>,
+) -> Result<Rc<Node>, NoMemory>
+    requires between { IsBetween _dim axis at }
+    requires under { list_all (is_under axis at) (node_cells _dim low.value) ≡ true }
+    requires over { list_all (is_over axis at) (node_cells _dim high.value) ≡ true }
+    requires low { is_well _dim low.value ≡ true }
+    requires high { is_well _dim high.value ≡ true }
+    ensures well { IfOk result (λ t. is_well _dim t.value ≡ true) }
+    ensures cells { IfOk result (λ t. IsBoth _dim t.value low.value high.value) }
+{
+    let node = Rc::new(
+        alloc,
+        Node::Cut {
+            axis,
+            at,
+            low,
+            high,
+        },
+    )?;
+    Ok(node)
+}
+
+/// Two small leaves, as one solid.
+fn merged(alloc: Global, _dim: usize, low: &Node, high: &Node) -> Result<Option<Solid>, NoMemory>
+    requires low { is_well _dim low.now ≡ true }
+    requires high { is_well _dim high.now ≡ true }
+    ensures dim { IfOk result (λ o. IfSome o (λ s. s.dim ≡ _dim)) }
+    ensures cells { IfOk result (λ o. IfSome o (λ s. IsOne _dim s low.now high.now)) }
+{
+    let Node::Leaf { solid: a, .. } = low else {
+        return Ok(None);
+    };
+    let Node::Leaf { solid: b, .. } = high else {
+        return Ok(None);
+    };
+    if LEAF / 4 < a.len() || LEAF / 4 < b.len() {
+        return Ok(None);
+    }
+    let all = both(alloc, a, b)?;
+    Ok(Some(all))
+}
+
+/// A cut, or one leaf where both sides are small.
+fn joined(
+    alloc: Global,
+    _dim: usize,
+    axis: usize,
+    at: i32,
+    low: Rc<Node>,
+    high: Rc<Node>,
+) -> Result<Rc<Node>, NoMemory>
+    requires between { IsBetween _dim axis at }
+    requires under { list_all (is_under axis at) (node_cells _dim low.value) ≡ true }
+    requires over { list_all (is_over axis at) (node_cells _dim high.value) ≡ true }
+    requires low { is_well _dim low.value ≡ true }
+    requires high { is_well _dim high.value ≡ true }
+    ensures well { IfOk result (λ t. is_well _dim t.value ≡ true) }
+    ensures cells { IfOk result (λ t. IsBoth _dim t.value low.value high.value) }
+{
+    let small = merged(alloc, _dim, &low, &high)?;
+    match small {
+        Some(all) => {
+            let node = leaf(alloc, all, LEAF)?;
+            Ok(node)
+        }
+        None => {
+            let node = cut(alloc, _dim, axis, at, low, high)?;
+            Ok(node)
+        }
+    }
+}
+
+/// A middle coordinate on an axis, above the least one, or none.
+fn middle(alloc: Global, a: Rows<'_>, axis: usize) -> Result<Option<i32>, NoMemory>
+    requires { axis < (vertices_of a).dim }
+    ensures { IfOk result (λ o. IfSome o (λ at. IsBetween (vertices_of a.entry).dim axis at)) }
+{
+    let limit = limit(a.dim());
+    let step = a.len() / 1024 + 1;
+    let mut heights = Vec::with_capacity(alloc, 1024)?;
+    let mut row = 0;
+    while row < a.len() {
+        heights.push(a.coord(row, axis + 1))?;
+        row = row.saturating_add(step);
+    }
+    heights.sort_unstable();
+    let Some(least) = heights.first() else {
+        return Ok(None);
+    };
+    let mut at = heights[heights.len() / 2];
+    for height in heights.as_slice() {
+        if at == *least {
+            at = *height;
+        }
+    }
+    if -limit < at && at < limit && *least < at {
+        Ok(Some(at))
+    } else {
+        Ok(None)
+    }
+}
+
+/// A solid, cut in two.
+#[derive(Drop)]
+pub(crate) struct Split {
+    axis: usize,
+    at: i32,
+    low: Solid,
+    high: Solid,
+}
+
+/// The two sides of a plane, if each is clearly smaller than the whole.
+fn split_at(alloc: Global, solid: &Solid, axis: usize, at: i32) -> Result<Option<Split>, NoMemory>
+    requires { IsBetween solid.now.dim axis at }
+    ensures { IfOk result (λ o. IfSome o (IsSplit solid.now)) }
+{
+    let most = solid.len() - solid.len() / 8;
+    let low = under(alloc, solid.rows(), axis, at)?;
+    let high = over(alloc, solid.rows(), axis, at)?;
+    if low.len() <= most && high.len() <= most {
+        Ok(Some(Split {
+            axis,
+            at,
+            low,
+            high,
+        }))
+    } else {
+        Ok(None)
+    }
+}
+
+/// The two sides of a plane across some axis, the first that serves from `first` on.
+fn halved(alloc: Global, solid: &Solid, first: usize) -> Result<Option<Split>, NoMemory>
+    ensures { IfOk result (λ o. IfSome o (IsSplit solid.now)) }
+{
+    solid.facts();
+    let dim = solid.dim();
+    for turn in 0..dim {
+        let axis = (first % dim + turn) % dim;
+        let plane = middle(alloc, solid.rows(), axis)?;
+        if let Some(at) = plane {
+            let made = split_at(alloc, solid, axis, at)?;
+            if made.is_some() {
+                return Ok(made);
+            }
+        }
+    }
+    Ok(None)
+}
+
+/// The tree of a solid, whose leaves have at most `most` rows where they can be cut.
+pub(crate) fn grown(
+    alloc: Global,
+    solid: Solid,
+    most: usize,
+    first: usize,
+    fuel: usize,
+) -> Result<Rc<Node>, NoMemory>
+    ensures well { IfOk result (λ t. is_well solid.dim t.value ≡ true) }
+    ensures cells { IfOk result (λ t. node_cells solid.dim t.value ≡ cells_of solid) }
+{
+    if solid.len() <= most || fuel == 0 {
+        let node = leaf(alloc, solid, most)?;
+        return Ok(node);
+    }
+    let halves = halved(alloc, &solid, first)?;
+    match halves {
+        Some(made) => {
+            let next = made.axis + 1;
+            let low = grown(alloc, made.low, LEAF, next, fuel - 1)?;
+            let high = grown(alloc, made.high, LEAF, next, fuel - 1)?;
+            let node = cut(alloc, solid.dim(), made.axis, made.at, low, high)?;
+            Ok(node)
+        }
+        None => {
+            let more = solid.len().saturating_mul(2);
+            let node = leaf(alloc, solid, more)?;
+            Ok(node)
+        }
+    }
+}
+
+/// The tree of a solid: one leaf, which is cut when an edit meets it.
+pub(crate) fn planted(alloc: Global, solid: Solid) -> Result<Rc<Node>, NoMemory>
+    ensures well { IfOk result (λ t. is_well solid.dim t.value ≡ true) }
+    ensures cells { IfOk result (λ t. node_cells solid.dim t.value ≡ cells_of solid) }
+{
+    let node = leaf(alloc, solid, LEAF)?;
+    Ok(node)
+}
+
+impl Node {
+    /// The tree with a change. What the change does not meet is shared.
+    pub(crate) fn changed(&self, alloc: Global, d: &Solid) -> Result<Rc<Node>, NoMemory>
+        requires { is_well d.now.dim self.now ≡ true }
+        ensures well { IfOk result (λ t. is_well d.now.dim t.value ≡ true) }
+        ensures cells { IfOk result (λ t. IsChanged self.now d.now t.value) }
+    {
+        match self {
+            Node::Leaf { solid, most } => {
+                let all = both(alloc, solid, d)?;
+                let node = grown(alloc, all, *most, 0, DEEP)?;
+                Ok(node)
+            }
+            Node::Cut {
+                axis,
+                at,
+                low,
+                high,
+            } => match side_of(d.rows(), *axis, *at) {
+                Side::Below => {
+                    let below = low.changed(alloc, d)?;
+                    let above = high.clone()?;
+                    let node = joined(alloc, d.dim(), *axis, *at, below, above)?;
+                    Ok(node)
+                }
+                Side::Above => {
+                    let below = low.clone()?;
+                    let above = high.changed(alloc, d)?;
+                    let node = joined(alloc, d.dim(), *axis, *at, below, above)?;
+                    Ok(node)
+                }
+                Side::Both => {
+                    let first = under(alloc, d.rows(), *axis, *at)?;
+                    let second = over(alloc, d.rows(), *axis, *at)?;
+                    let below = low.changed(alloc, &first)?;
+                    let above = high.changed(alloc, &second)?;
+                    let node = joined(alloc, d.dim(), *axis, *at, below, above)?;
+                    Ok(node)
+                }
+            },
+        }
+    }
+}
