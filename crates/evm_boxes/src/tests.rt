@@ -1,7 +1,26 @@
 //! Files that are read, and each refusal.
 
-use super::{BoxFileError, join, read_boxes};
+use super::{BoxFileError, BoxRow, join, read_boxes};
+use evm_rows::{NoMemory, Solid};
+use std::alloc::Global;
 use std::test::Fail;
+
+// Two squares that overlap.
+fn two_squares(alloc: Global) -> Result<Solid, NoMemory> {
+    let boxes = [
+        BoxRow {
+            dim: 2,
+            lo: [1, 1, 0, 0, 0, 0],
+            hi: [3, 3, 0, 0, 0, 0],
+        },
+        BoxRow {
+            dim: 2,
+            lo: [0, 0, 0, 0, 0, 0],
+            hi: [2, 2, 0, 0, 0, 0],
+        },
+    ];
+    join(alloc, 2, &boxes)
+}
 
 #[test]
 fn files_state_unions(rt: HostRuntime) -> Result<(), Fail> {
@@ -22,6 +41,8 @@ fn files_state_unions(rt: HostRuntime) -> Result<(), Fail> {
     }
     let none = read_boxes(alloc, 3, b" evm-boxes\t1 03")?;
     assert_eq!(rt; none.len(), 0);
+    let joined = two_squares(alloc)?;
+    assert_eq!(rt; joined.flat(), table[0].1);
     let none = join(alloc, 2, &[])?;
     assert_eq!(rt; none.len(), 0);
     Ok(())
