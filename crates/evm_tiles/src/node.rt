@@ -1,18 +1,16 @@
 //! Nodes of a tree of tiles.
 
 ghost use Rattle.evm_cells.specs.Windows.{is_under, is_over};
-ghost use Rattle.std.specs.Prelude.{◌≡◌, ◌<◌, ◌≤◌, ◌<ℤ◌, neg_ℤ, pos, true, length, IfOk, IfSome};
+ghost use Rattle.std.specs.Prelude.{◌≡◌, ◌<◌, ◌≤◌, true, length, IfOk, IfSome};
 ghost use Rattle.std.specs.List.{list_all};
 ghost use Rattle.evm_cells.specs.Boxes.{is_box};
-ghost use Rattle.evm_cells.specs.Limits.{limit};
-ghost use Rattle.evm_cells.specs.Shapes.{clip};
 ghost use Rattle.evm_rows.specs.Rows.{cells_of};
 ghost use Rattle.evm_rows.specs.View.{vertices_of};
 ghost use Rattle.evm_tiles.specs.Trees.{node_cells, node_window, is_well, IsBoth, IsChanged, IsOne};
 ghost use Rattle.evm_tiles.specs.Splits.{IsBetween, IsSplit};
 
 use crate::solids::{Side, both, over, side_of, under};
-use evm_rows::{NoMemory, Rows, Solid, limit, xor};
+use evm_rows::{NoMemory, Rows, Solid, limit};
 use evm_shapes::clip;
 use std::alloc::Global;
 use std::rc::Rc;

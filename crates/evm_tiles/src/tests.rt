@@ -49,7 +49,7 @@ fn checker(alloc: Global) -> Result<(Tiles, Solid), NoMemory>
     Ok((tree, list))
 }
 
-// Whether the tree has the rows of the list; what is in a box of four cells; and the section through ten squares.
+// Whether the tree has the rows of the list; what is in a box of four cells; and the section through twenty squares.
 #[tactic(auto, unfolding(evm_cells::specs::Limits::limit, evm_cells::specs::Limits::is_point, evm_cells::specs::Limits::is_point_coord, evm_cells::specs::Limits::is_cell_coord, evm_cells::specs::Places::each))]
 fn compared(alloc: Global) -> Result<(bool, usize, usize), NoMemory> {
     let (tree, list) = checker(alloc)?;

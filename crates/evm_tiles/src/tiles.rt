@@ -15,8 +15,8 @@ use std::alloc::Global;
 use std::marker::Model;
 use std::rc::Rc;
 
-/// A solid as a tree of tiles: boxes that a plane cuts in two, and at the leaves the solid inside them, each with few rows. Trees
-/// share the parts in which they do not differ.
+/// A solid as a tree of tiles: boxes that a plane cuts in two, and at the leaves the part of the solid inside them, which has few rows
+/// where an edit met it. Trees share the parts in which they do not differ.
 ///
 /// Contracts see a tree as they see the solid that it stands for.
 #[derive(Drop)]
@@ -37,8 +37,6 @@ impl Model for Tiles {
 }
 
 impl Tiles {
-    ghost use Rattle.evm_rows.specs.Rows.{IsSolid};
-
     /// The tree of a solid. It is one leaf, a copy of the rows; an edit cuts the leaves that it meets. Takes memory for the rows once.
     pub fn from_rows(alloc: Global, a: Rows<'_>) -> Result<Tiles, NoMemory>
         ensures { IfOk result (λ t. t ≡ vertices_of a.entry) }
@@ -57,7 +55,11 @@ impl Tiles {
         self.dim
     }
 
-    /// A second tree that shares all of this one. Takes no memory; there is no second one where the count of those that share is full.
+    /// A second tree that shares all of this one. Takes no memory.
+    ///
+    /// # Errors
+    ///
+    /// `NoMemory` where so many trees share this one already that their count is full.
     pub fn share(&self) -> Result<Tiles, NoMemory>
         ensures { IfOk result (λ t. t ≡ self.now) }
     {
@@ -124,6 +126,7 @@ impl Tiles {
         requires deep { 2 ≤ self.now.dim }
         requires height { is_cell_coord self.now.dim at ≡ true }
         ensures dim { IfOk result (λ s. s.dim ≡ self.now.dim - 1) }
+        ensures rows { IfOk result (λ s. s.rows ≡ evm (self.now.dim - 1) (section_cells self.now at)) }
         ensures cells { IfOk result (λ s. cells_of s ≡ section_cells self.now at) }
     {
         let dim = self.dim;
@@ -134,6 +137,7 @@ impl Tiles {
         hi[0] = at + 1;
         let thin = self.window(alloc, &lo[..dim], &hi[..dim])?;
         let part = slice(alloc, thin.rows(), 1, at)?;
+        part.facts();
         Ok(part)
     }
 }

@@ -2,6 +2,7 @@ use Rattle.std.proofs.Common.{arith, ◌≡◌, ◌-◌, ◌-ℤ◌, ◌+ℤ◌,
 use Rattle.evm_cells.specs.Boxes.{is_box}
 use Rattle.evm_cells.specs.Limits.{is_cell_coord}
 use Rattle.evm_cells.specs.Sections.{slice}
+use Rattle.evm_cells.specs.Vertices.{evm}
 use Rattle.evm_cells.specs.Shapes.{clip}
 use Rattle.evm_cells.proofs.Universe.{cell_set-cells}
 use Rattle.evm_rows.specs.Rows.{Vertices, cells_of}
@@ -46,6 +47,15 @@ returns-clause-cells c =
     ∙ ap (λ (j : ℕ). slice (k - 1) 0 a (clip k (take j (slice_set (six x) 0 a)) (take j (slice_set (six y) 0 b)) S)) q
     ∙ thin_section_at k m x y a b S (sym q ∙ s) t (cell_set-cells k c.args.self.now.rows)
     ∙ ap (λ (z : ℤ). slice (k - 1) 0 z S) (same32 c.args.at c.ranges.at)
+
+pub returns-clause-rows : goal.returns-clause-rows
+returns-clause-rows c =
+    let part : Vertices = c.in_ok-part.part in
+    let d : part.dim ≡ c.args.self.now.dim - 1 =
+    c.in_ok-part.ensures.dim ∙ ap (λ (v : Vertices). v.dim - 1) c.rows.ensures ∙ ap (λ (j : ℕ). j - 1) c.in_ok-thin.ensures.dim in
+    c.facts.ensures.vertices
+    ∙ ap (λ (j : ℕ). evm j (cells_of part)) d
+    ∙ ap (evm (c.args.self.now.dim - 1)) (returns-clause-cells c)
 
 pub overflow_add-hi : goal.overflow_add-hi
 overflow_add-hi c = next_fits c.args.self.now.dim c.args.at c.requires.height c.ranges.at
