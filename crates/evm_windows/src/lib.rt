@@ -1,8 +1,9 @@
 //! The change of a Boolean of trees of tiles, looked for near the changes of its operands.
 //!
 //! A Boolean's value changes only where an operand does: inside any box that holds the changes of both operands, the change of
-//! the value is that of the Boolean of what the operands have in the box. So a change costs the windows of the two trees at
-//! the least box of the changes, however large the solids are. (This project's own.)
+//! the value is that of the Boolean of what the operands have in the box. So the windows of the two trees at the least box of
+//! the changes are enough. Contracts say what the change is; that the windows are enough for the box that is taken is tested at
+//! each call, and no clause says that the test never fails. (This project's own.)
 #![tactic(auto)]
 
 ghost use Rattle.std.specs.Prelude.{◌≡◌, true, IfOk};
@@ -23,9 +24,13 @@ use std::alloc::Global;
 /// The change of `op` where its operand `a` changes by `da`, so that it becomes `a xor da`, and `b` by `db`: the exclusive or of
 /// the value before and after, as `evm_delta::delta2` answers for the solids of the trees.
 ///
-/// All four have one dimension, and so has the answer. Where neither operand changes, nothing is looked at. Otherwise only what
-/// the trees have in the least box of both changes is: it takes memory for these two windows, for each change once, and for
-/// the change of their Boolean.
+/// All four have one dimension, and so has the answer. Where neither operand changes, nothing is looked at. Otherwise it looks at
+/// the windows of the two trees at the least box of both changes, and at the whole solids only if that box did not hold the
+/// changes. Takes memory for the windows, for a clip of each change, and for the change of their Boolean.
+///
+/// # Errors
+///
+/// `NoMemory` where memory lacks; the trees and the changes stay as they are.
 pub fn delta2(
     alloc: Global,
     op: Op2,

@@ -16,8 +16,8 @@ fn square(alloc: Global, from: i32, to: i32) -> Result<Solid, NoMemory>
     }
 }
 
-// A square of four cells is cut out of a square of 400, from which another one is taken away; and whether a square that the other one
-// covers changes nothing.
+// From a square of 400 cells another one is taken away. A change of four cells beside that one is the change of the value, and a change
+// that it covers is none.
 fn changes(alloc: Global) -> Result<(bool, usize), NoMemory> {
     let all = Tiles::from_rows(alloc, square(alloc, 0, 20)?.rows())?;
     let some = Tiles::from_rows(alloc, square(alloc, 10, 20)?.rows())?;
@@ -30,6 +30,6 @@ fn changes(alloc: Global) -> Result<(bool, usize), NoMemory> {
 }
 
 #[test]
-fn changes_are_those_of_the_lists(rt: HostRuntime) {
+fn a_change_is_cut_down_by_the_other_operand(rt: HostRuntime) {
     assert_eq!(rt; changes(rt.alloc()), Ok((true, 0)));
 }
