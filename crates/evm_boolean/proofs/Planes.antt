@@ -18,7 +18,7 @@ use Rattle.evm_rows.specs.Rows.{flat_of, combined_rows, xor_rows}
 use Rattle.evm_rows.proofs.Bridge.{vertices-op, vertices-xor}
 use Rattle.evm_boolean.specs.Tower.{under, lower, gain}
 use Rattle.evm_boolean.specs.Lines.{firsts, ones, head_of, least, if_any, Course, passed}
-use Rattle.evm_boolean.proofs.TowerLaws.{flat_of-append}
+use Rattle.evm_rows.proofs.BoxTests.{flat_of-append}
 use Rattle.evm_boolean.proofs.Lines.{par, par-nil, par-append, par-above, par-under, par-cells, par-op, par-xor, by_places, all_le, all_lt, higher, rest_rises, rises-over, Ahead, line_stays, line_passes, from_first, line_now, head_above, Built, built_stays, built_more}
 
 -- ---- the lowest number that is left

@@ -10,7 +10,7 @@ ghost use Rattle.evm_boolean.specs.Tower.{fills, gain, under};
 ghost use Rattle.evm_boolean.specs.Lines.{firsts, ones, head_of, least, if_any, passed, IsLine};
 
 use crate::boolean::{Op2, lower_of};
-use evm_rows::{Rows, append_rows, split_row};
+use evm_rows::{NoMemory, Rows, append_rows, split_row};
 use evm_sections::first_of;
 use std::alloc::AllocError;
 use std::marker::Model;
@@ -100,15 +100,11 @@ impl<'a> Line<'a> {
     }
 
     // Appends the numbers that are left.
-    fn append_left(&self, out: &mut Vec<i32>) -> Result<(), AllocError>
-        ensures { OnOk result (out.new.items ≡ out.old.items ++ self.now.left) }
+    fn append_left(&self, out: Vec<i32>) -> Result<Vec<i32>, NoMemory>
+        ensures { IfOk result (λ v. v.items ≡ out.items ++ self.now.left) }
     {
-        if self.width == 1 {
-            out.extend_from_slice(self.flat)?;
-            return Ok(());
-        }
-        append_rows(out, self.flat, self.width, self.skip)?;
-        Ok(())
+        let grown = append_rows(out, self.flat, self.width, self.skip)?;
+        Ok(grown)
     }
 }
 
@@ -212,7 +208,7 @@ pub fn append_gain(
 
 /// The line after a change, in the room of a list that is done with.
 #[inline(always)]
-pub fn changed(room: Vec<i32>, line: &[i32], change: Rows<'_>) -> Result<Vec<i32>, AllocError>
+pub fn changed(room: Vec<i32>, line: &[i32], change: Rows<'_>) -> Result<Vec<i32>, NoMemory>
     requires line { AreRows line.now 1 0 }
     requires change { (vertices_of change).dim ≡ 1 }
     ensures are_rows { IfOk result (λ v. AreRows v.items 1 0) }
@@ -234,6 +230,6 @@ pub fn changed(room: Vec<i32>, line: &[i32], change: Rows<'_>) -> Result<Vec<i32
         let after = a.on() != c.on();
         append_number(&mut out, at, before != after)?;
     }
-    a.append_left(&mut out)?;
-    Ok(out)
+    let whole = a.append_left(out)?;
+    Ok(whole)
 }

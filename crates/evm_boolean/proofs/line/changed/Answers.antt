@@ -60,7 +60,7 @@ pub returns-clause-rows : goal.returns-clause-rows
 returns-clause-rows c =
     let vc : IsVertexList 1 (rows_of c.args.change.flat.now c.args.change.width c.args.change.skip) = rw c.requires.change at c.args.change.vertices in
     let s : Turning (firsts (rows_of c.args.line.now 1 0)) (firsts (rows_of c.args.change.flat.now c.args.change.width c.args.change.skip)) c.loop-next.out.items c.loop-next.a c.loop-next.c = rw (firsts-numbers c.args.line.now) c.loop-next.invariant in
-    rows_of-ones _ ∙ turning_done (rows_of c.args.line.now 1 0) _ c.loop-next.out.items _ c.loop-next.a c.loop-next.c c.requires.line.vertices vc (c.in_default.ensures) c.in_ok-append_left.ensures s
+    rows_of-ones _ ∙ turning_done (rows_of c.args.line.now 1 0) _ c.loop-next.out.items _ c.loop-next.a c.loop-next.c c.requires.line.vertices vc (c.in_default.ensures) c.in_ok-whole.ensures s
 
 pub returns-clause-are_rows : goal.returns-clause-are_rows
 returns-clause-are_rows c =
@@ -68,4 +68,4 @@ returns-clause-are_rows c =
     let C : List (List ℤ) = rows_of c.args.change.flat.now c.args.change.width c.args.change.skip in
     let vc : IsVertexList 1 C = rw c.requires.change at c.args.change.vertices in
     let s : Turning (firsts V) (firsts C) c.loop-next.out.items c.loop-next.a c.loop-next.c = rw (firsts-numbers c.args.line.now) c.loop-next.invariant in
-    line_rows V C _ (turning_done V C c.loop-next.out.items _ c.loop-next.a c.loop-next.c c.requires.line.vertices vc (c.in_default.ensures) c.in_ok-append_left.ensures s)
+    line_rows V C _ (turning_done V C c.loop-next.out.items _ c.loop-next.a c.loop-next.c c.requires.line.vertices vc (c.in_default.ensures) c.in_ok-whole.ensures s)
