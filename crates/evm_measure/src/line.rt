@@ -9,7 +9,7 @@ ghost use Rattle.evm_rows.specs.Rows.{AreRows, rows_of, xor_rows};
 ghost use Rattle.evm_rows.specs.View.{vertices_of};
 ghost use Rattle.evm_boolean.specs.Lines.{firsts, head_of, least, if_any, passed, IsLine};
 
-use evm_rows::{Rows, append_rows, split_row};
+use evm_rows::{NoMemory, Rows, append_rows, split_row};
 use evm_sections::first_of;
 use std::alloc::AllocError;
 use std::marker::Model;
@@ -99,15 +99,11 @@ impl<'a> Line<'a> {
     }
 
     // Appends the numbers that are left.
-    fn append_left(&self, out: &mut Vec<i32>) -> Result<(), AllocError>
-        ensures { OnOk result (out.new.items ≡ out.old.items ++ self.now.left) }
+    fn append_left(&self, out: Vec<i32>) -> Result<Vec<i32>, NoMemory>
+        ensures { IfOk result (λ v. v.items ≡ out.items ++ self.now.left) }
     {
-        if self.width == 1 {
-            out.extend_from_slice(self.flat)?;
-            return Ok(());
-        }
-        append_rows(out, self.flat, self.width, self.skip)?;
-        Ok(())
+        let grown = append_rows(out, self.flat, self.width, self.skip)?;
+        Ok(grown)
     }
 }
 
@@ -177,7 +173,7 @@ pub fn changed(
     line: &[i32],
     length: u64,
     change: Rows<'_>,
-) -> Result<(Vec<i32>, u64, u64), AllocError>
+) -> Result<(Vec<i32>, u64, u64), NoMemory>
     requires line { AreRows line.now 1 0 }
     requires length { length ≡ content (cells 1 (rows_of line.now 1 0)) }
     requires change { (vertices_of change).dim ≡ 1 }
@@ -210,6 +206,6 @@ pub fn changed(
         append_number(&mut out, at, before != after)?;
         level = at;
     }
-    a.append_left(&mut out)?;
-    Ok((out, length + across - 2 * shared, across))
+    let whole = a.append_left(out)?;
+    Ok((whole, length + across - 2 * shared, across))
 }

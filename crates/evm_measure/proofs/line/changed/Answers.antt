@@ -126,7 +126,7 @@ pub returns-clause-rows : goal.returns-clause-rows
 returns-clause-rows c =
     let vc : IsVertexList 1 (rows_of c.args.change.flat.now c.args.change.width c.args.change.skip) = rw c.requires.change at c.args.change.vertices in
     let s : Turning (firsts (rows_of c.args.line.now 1 0)) (firsts (rows_of c.args.change.flat.now c.args.change.width c.args.change.skip)) c.loop-next.out.items c.loop-next.a c.loop-next.c = rw (firsts-numbers c.args.line.now) c.loop-next.invariant.turning in
-    rows_of-ones _ ∙ turning_done (rows_of c.args.line.now 1 0) _ c.loop-next.out.items _ c.loop-next.a c.loop-next.c c.requires.line.vertices vc (c.in_default.ensures) c.in_ok-append_left.ensures s
+    rows_of-ones _ ∙ turning_done (rows_of c.args.line.now 1 0) _ c.loop-next.out.items _ c.loop-next.a c.loop-next.c c.requires.line.vertices vc (c.in_default.ensures) c.in_ok-whole.ensures s
 
 pub returns-clause-are_rows : goal.returns-clause-are_rows
 returns-clause-are_rows c =
@@ -134,7 +134,7 @@ returns-clause-are_rows c =
     let C : List (List ℤ) = rows_of c.args.change.flat.now c.args.change.width c.args.change.skip in
     let vc : IsVertexList 1 C = rw c.requires.change at c.args.change.vertices in
     let s : Turning (firsts V) (firsts C) c.loop-next.out.items c.loop-next.a c.loop-next.c = rw (firsts-numbers c.args.line.now) c.loop-next.invariant.turning in
-    line_rows V C _ (turning_done V C c.loop-next.out.items _ c.loop-next.a c.loop-next.c c.requires.line.vertices vc (c.in_default.ensures) c.in_ok-append_left.ensures s)
+    line_rows V C _ (turning_done V C c.loop-next.out.items _ c.loop-next.a c.loop-next.c c.requires.line.vertices vc (c.in_default.ensures) c.in_ok-whole.ensures s)
 
 pub returns-clause-length : goal.returns-clause-length
 returns-clause-length c =
@@ -143,5 +143,5 @@ returns-clause-length c =
     let vc : IsVertexList 1 C = rw c.requires.change at c.args.change.vertices in
     let (across, after) = counted_all c.args.line.now C _ c.loop-next.a c.loop-next.c c.loop-next.across c.loop-next.shared c.requires.line.vertices vc c.in_default.ensures c.loop-next.invariant.counting in
     let x = c.requires.length in
-    let rows : length (cells 1 (rows_of c.append_left.new.out.items 1 0)) ≡ length (cells 1 (xor_rows 1 V C)) = ap (λ (R : List (List ℤ)). length (cells 1 R)) (returns-clause-rows c) in
+    let rows : length (cells 1 (rows_of c.in_ok-whole.whole.items 1 0)) ≡ length (cells 1 (xor_rows 1 V C)) = ap (λ (R : List (List ℤ)). length (cells 1 R)) (returns-clause-rows c) in
     omega (arith, x, across, after, rows)
