@@ -6,16 +6,14 @@ ghost use Rattle.evm_cells.specs.Vertices.{cells};
 ghost use Rattle.evm_cells.specs.Measures.{content, boundary};
 ghost use Rattle.evm_rows.specs.View.{vertices_of};
 
-mod line;
 mod plane;
 mod section;
 
-use crate::line::counted;
 use crate::plane::{Rooms, measure_plane};
 use crate::section::section_after;
 use evm_rows::{NoMemory, Rows, Solid};
-use evm_sections::Walk;
 use evm_sections::marks::Marks;
+use evm_sections::{Walk, counted};
 use std::alloc::Global;
 
 // The length of the runs of a view of dimension 1.

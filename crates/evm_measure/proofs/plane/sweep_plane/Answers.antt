@@ -3,7 +3,7 @@ use Rattle.evm_cells.specs.Vertices.{IsVertexList, cells}
 use Rattle.evm_cells.proofs.Layers.{cells-empty}
 use Rattle.evm_rows.specs.Rows.{rows_of}
 use Rattle.evm_rows.proofs.RowsLaws.{rows_of-none}
-use Rattle.evm_boolean.proofs.LineSteps.{none_rows}
+use Rattle.evm_sections.proofs.LineSteps.{none_rows}
 use Rattle.evm_measure.proofs.Sums.{content_is_at, content-fits, boundary_is_at, boundary-fits}
 use Rattle.evm_measure.proofs.plane.sweep_plane.Goals as goal
 

@@ -1,7 +1,9 @@
 -- Vertex lists of dimension 1 as ascending numbers, and what is left of one behind a walk
 use Rattle.std.specs.Prelude.{◌≡◌, ℕ, ◌+◌, ◌%◌, ◌≤◌, length, Bool, true, false, Option, Some, None, int_lt, ℤ, List, [], ◌∷◌, map, if◌then◌else◌}
 use Rattle.std.specs.Ordering.{int_eq}
-use Rattle.evm_cells.specs.Booleans.{xor}
+use Rattle.evm_cells.specs.Booleans.{xor, and_cells}
+use Rattle.evm_cells.specs.Measures.{content}
+use Rattle.evm_cells.specs.Vertices.{cells}
 
 -- the first number of each row
 abbrev pub firsts : List (List ℤ) → List ℤ
@@ -38,13 +40,17 @@ abbrev pub if_any : Bool → ℤ → List ℤ
 if_any true x = x ∷ []
 if_any false x = []
 
+-- the length of what two lines share
+abbrev pub shared_length : List (List ℤ) → List (List ℤ) → ℕ
+shared_length V W = content (and_cells 1 (cells 1 V) (cells 1 W))
+
 -- what a clause sees of a line that is walked along: the vertices that are left, and whether the place before them is filled
-pub record Course : Type 0 where
+pub record LineRest : Type 0 where
   pub left : List ℤ
   pub on : Bool
 
 -- the line behind the number h
-abbrev pub passed : ℤ → Course → Course
+abbrev pub passed : ℤ → LineRest → LineRest
 passed h l = record { left = past h l.left; on = xor l.on (stands h l.left) }
 
 -- a flat list of whole rows of at most 6 numbers, of which one is left after the skip
