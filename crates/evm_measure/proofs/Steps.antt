@@ -6,8 +6,7 @@ use Rattle.evm_cells.specs.Measures.{content}
 use Rattle.evm_rows.specs.Rows.{AreRows, rows_of, xor_rows}
 use Rattle.std.specs.Prelude.{if◌then◌else◌}
 use Rattle.evm_cells.specs.Booleans.{xor}
-use Rattle.evm_sections.specs.Lines.{shared_length}
-use Rattle.evm_sections.proofs.Lengths.{length_after}
+use Rattle.evm_sections.proofs.Lengths.{share_of, length_after}
 use Rattle.evm_sections.proofs.Counting.{line-small}
 use Rattle.evm_sections.specs.Couplets.{first_height, rest_of, AreSingle, mark}
 use Rattle.evm_sections.proofs.Zero.{xor_rows-mark, cells-mark}
@@ -33,15 +32,15 @@ pub record LongAfter (now : List ℤ) (C : List (List ℤ)) (long across shared 
   pub across_small : across ≤ 2 ^ 31
 
 pub long_after : (line now : List ℤ) (n : ℕ) (C : List (List ℤ)) (long across shared : ℕ) → now ≡ line → AreRows line 1 0 → n ≡ 1 → IsVertexList n C
-    → long ≡ length (cells 1 (rows_of line 1 0)) → across ≡ length (cells 1 C) → shared ≡ shared_length (rows_of now 1 0) C
+    → long ≡ length (cells 1 (rows_of line 1 0)) → across ≡ length (cells 1 C) → shared ≡ share_of (rows_of now 1 0) C
     → LongAfter now C long across shared
 long_after line now n C long across shared same rows one vn e f g =
     let V : List (List ℤ) = rows_of line 1 0 in
     let v : IsVertexList 1 V = rows.vertices in
     let vc : IsVertexList 1 C = rw one at vn in
-    let law : length (cells 1 (xor_rows 1 V C)) + 2 * shared_length V C ≡ length (cells 1 V) + length (cells 1 C) = length_after V C v vc in
+    let law : length (cells 1 (xor_rows 1 V C)) + 2 * share_of V C ≡ length (cells 1 V) + length (cells 1 C) = length_after V C v vc in
     record {
-      law = rw (same, e, f) (ap (λ s. length (cells 1 (xor_rows 1 V C)) + 2 * s) (g ∙ ap (λ w. shared_length (rows_of w 1 0) C) same) ∙ law);
+      law = rw (same, e, f) (ap (λ s. length (cells 1 (xor_rows 1 V C)) + 2 * s) (g ∙ ap (λ w. share_of (rows_of w 1 0) C) same) ∙ law);
       long_small = rw e (line-small V v);
       across_small = rw f (line-small C vc);
     }

@@ -15,13 +15,13 @@ use Rattle.evm_cells.proofs.Universe.{point_parts}
 use Rattle.evm_rows.specs.Rows.{rows_of}
 use Rattle.evm_rows.proofs.Bridge.{wide-points}
 use Rattle.evm_sections.proofs.Sections.{bottom, bottom_is}
-use Rattle.evm_sections.specs.Lines.{firsts, ones, head_of, past, least, LineRest, passed, shared_length}
+use Rattle.evm_sections.specs.Lines.{firsts, ones, head_of, past, least, LineRest, passed}
 use Rattle.evm_sections.proofs.Lines.{par, par-nil, par-above, ones-firsts, rows_of-ones, all_lt, Ahead}
 use Rattle.evm_sections.proofs.LineSteps.{firsts-numbers}
 use Rattle.evm_sections.proofs.LineChanges.{least-le, even_end, no_head, Stepped, stepped}
 use Rattle.evm_cells.proofs.Bounds.{length-ints}
 use Rattle.evm_cells.proofs.Coords.{limit-small}
-use Rattle.evm_sections.proofs.Lengths.{bit, filled, all_filled, room, room_is, stretch, from_low, none_from, line_content, shared_places}
+use Rattle.evm_sections.proofs.Lengths.{bit, filled, all_filled, room, room_is, stretch, from_low, none_from, line_content, share_of, shared_places}
 
 -- low is the place that the program keeps; across and shared are the filled places of the change, and of both, that were passed
 pub record Counting (A C : List ℤ) (low : ℤ) (a c : LineRest) (across shared : ℕ) : Type 0 where
@@ -123,7 +123,7 @@ counting_more A C low n at a c a' c' across shared p q first pick pa pc ep eq s 
 
 pub counting_done : (V C : List (List ℤ)) (low : ℤ) (a c : LineRest) (across shared : ℕ) → IsVertexList 1 V → IsVertexList 1 C → None ≡ head_of c.left
     → Counting (firsts V) (firsts C) low a c across shared
-    → (across ≡ length (cells 1 C)) × (shared ≡ shared_length V C)
+    → (across ≡ length (cells 1 C)) × (shared ≡ share_of V C)
 counting_done V C low a c across shared v vc last s =
     let l : ℤ = s.level in
     let A : List ℤ = firsts V in
@@ -134,7 +134,7 @@ counting_done V C low a c across shared v vc last s =
     let no_more : filled (par D) l s.high ≡ 0 = none_from (λ k. bit (par D k)) l s.high (λ k m. ap bit (still k m)) in
     let no_both : filled (λ k. par A k && par D k) l s.high ≡ 0 = none_from (λ k. bit (par A k && par D k)) l s.high (λ k m. ap bit (ap (λ t. par A k && t) (still k m) ∙ and-false (par A k))) in
     let all : length (cells 1 C) ≡ all_filled (par D) = line_content C vc in
-    let both : shared_length V C ≡ all_filled (λ k. par A k && par D k) = shared_places V C v vc in
+    let both : share_of V C ≡ all_filled (λ k. par A k && par D k) = shared_places V C v vc in
     let x = s.crossed in
     let y = s.met in
     (omega (arith, no_more, all, x), omega (arith, no_both, both, y))
@@ -193,5 +193,5 @@ step_small A C low n at a c across shared p q first pick ep eq s =
 -- the same at the numbers of a line
 pub counted_all : (w : List ℤ) (C : List (List ℤ)) (low : ℤ) (a c : LineRest) (across shared : ℕ) → IsVertexList 1 (rows_of w 1 0) → IsVertexList 1 C → None ≡ head_of c.left
     → Counting w (firsts C) low a c across shared
-    → (across ≡ length (cells 1 C)) × (shared ≡ shared_length (rows_of w 1 0) C)
+    → (across ≡ length (cells 1 C)) × (shared ≡ share_of (rows_of w 1 0) C)
 counted_all w C low a c across shared v vc last s = counting_done (rows_of w 1 0) C low a c across shared v vc last (rw (firsts-numbers w) s)

@@ -14,7 +14,7 @@ use Rattle.evm_cells.proofs.Combine.{cell_set-combine}
 use Rattle.evm_rows.specs.Rows.{xor_rows}
 use Rattle.evm_rows.proofs.Bridge.{vertices-xor}
 use Rattle.evm_sections.proofs.Sections.{bottom, bottom_is}
-use Rattle.evm_sections.specs.Lines.{firsts, shared_length}
+use Rattle.evm_sections.specs.Lines.{firsts}
 use Rattle.evm_sections.proofs.Lines.{par, par-cells, par-xor, has-op}
 
 -- 1 where it holds, else 0
@@ -67,8 +67,12 @@ sum_both a b (x ∷ xs) =
     let h = bits (a x) (b x) in
     omega (arith, c, d, e, f, r, h)
 
+-- the length of what two lines share
+abbrev pub share_of : List (List ℤ) → List (List ℤ) → ℕ
+share_of V C = length (and_cells 1 (cells 1 V) (cells 1 C))
+
 -- what two lines share are the places that both fill
-pub shared_places : (V C : List (List ℤ)) → IsVertexList 1 V → IsVertexList 1 C → shared_length V C ≡ all_filled (λ k. par (firsts V) k && par (firsts C) k)
+pub shared_places : (V C : List (List ℤ)) → IsVertexList 1 V → IsVertexList 1 C → share_of V C ≡ all_filled (λ k. par (firsts V) k && par (firsts C) k)
 unfolding and_cells
 shared_places V C v c =
     let S : List (List ℤ) = combine (λ a b. a && b) 1 (cells 1 V) (cells 1 C) in
@@ -77,7 +81,7 @@ shared_places V C v c =
 
 -- the length after a change, and twice what the line and the change share, are both lengths
 pub length_after : (V C : List (List ℤ)) → IsVertexList 1 V → IsVertexList 1 C
-    → length (cells 1 (xor_rows 1 V C)) + 2 * shared_length V C ≡ length (cells 1 V) + length (cells 1 C)
+    → length (cells 1 (xor_rows 1 V C)) + 2 * share_of V C ≡ length (cells 1 V) + length (cells 1 C)
 length_after V C v c =
     ap₂ (λ y z. y + 2 * z)
     (line_content (xor_rows 1 V C) (vertices-xor 1 V C) ∙ ap (λ f. sum_by f (cell_coords 1)) (λ i k. ap bit (par-xor V C k v c) i))

@@ -4,6 +4,9 @@ use Rattle.std.specs.Ordering.{int_eq}
 use Rattle.evm_cells.specs.Booleans.{xor, and_cells}
 use Rattle.evm_cells.specs.Measures.{content}
 use Rattle.evm_cells.specs.Vertices.{cells}
+use Rattle.evm_rows.specs.Rows.{rows_of, xor_rows}
+use Rattle.evm_rows.specs.View.{vertices_of}
+use Rattle.evm_rows.specs.declared.solid.Rows.{Rows}
 
 -- the first number of each row
 abbrev pub firsts : List (List ℤ) → List ℤ
@@ -40,9 +43,13 @@ abbrev pub if_any : Bool → ℤ → List ℤ
 if_any true x = x ∷ []
 if_any false x = []
 
--- the length of what two lines share
-abbrev pub shared_length : List (List ℤ) → List (List ℤ) → ℕ
-shared_length V W = content (and_cells 1 (cells 1 V) (cells 1 W))
+-- the vertices of a line of numbers after a change
+abbrev pub changed_line : List ℤ → Rows → List (List ℤ)
+changed_line line change = xor_rows 1 (rows_of line 1 0) (vertices_of change).rows
+
+-- the length of what a line of numbers and a change share
+abbrev pub shared_length : List ℤ → Rows → ℕ
+shared_length line change = content (and_cells 1 (cells 1 (rows_of line 1 0)) (cells 1 (vertices_of change).rows))
 
 -- what a clause sees of a line that is walked along: the vertices that are left, and whether the place before them is filled
 pub record LineRest : Type 0 where

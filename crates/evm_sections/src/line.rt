@@ -5,9 +5,9 @@ ghost use Rattle.std.specs.Prelude.{◌≡◌, ◌++◌, ◌<◌, ◌≤◌, ◌
 ghost use Rattle.std.specs.List.{list_all};
 ghost use Rattle.evm_cells.specs.Measures.{content};
 ghost use Rattle.evm_cells.specs.Vertices.{cells, odd};
-ghost use Rattle.evm_rows.specs.Rows.{AreRows, rows_of, xor_rows};
+ghost use Rattle.evm_rows.specs.Rows.{AreRows, rows_of};
 ghost use Rattle.evm_rows.specs.View.{vertices_of};
-ghost use Rattle.evm_sections.specs.Lines.{firsts, head_of, least, if_any, passed, shared_length, IsLine};
+ghost use Rattle.evm_sections.specs.Lines.{firsts, head_of, least, if_any, passed, changed_line, shared_length, IsLine};
 
 use crate::walk::first_of;
 use evm_rows::{NoMemory, Rows, append_rows, split_row};
@@ -113,15 +113,11 @@ impl<'a> Line<'a> {
 
     /// Appends the numbers that are left to `out`. Takes memory only where `out` has no room left. `NoMemory` is want of
     /// memory, and `out` is gone then.
-    pub fn append_left(&self, mut out: Vec<i32>) -> Result<Vec<i32>, NoMemory>
+    pub fn append_left(&self, out: Vec<i32>) -> Result<Vec<i32>, NoMemory>
         ensures { IfOk result (λ v. v.items ≡ out.items ++ self.now.left) }
     {
-        if self.width == 1 {
-            out.extend_from_slice(self.flat)?;
-            return Ok(out);
-        }
-        append_rows(&mut out, self.flat, self.width, self.skip)?;
-        Ok(out)
+        let grown = append_rows(out, self.flat, self.width, self.skip)?;
+        Ok(grown)
     }
 }
 
@@ -194,9 +190,9 @@ pub fn changed(room: Vec<i32>, line: &[i32], change: Rows<'_>) -> Result<LineAft
     requires line { AreRows line.now 1 0 }
     requires change { (vertices_of change).dim ≡ 1 }
     ensures are_rows { IfOk result (λ p. AreRows p.line.items 1 0) }
-    ensures rows { IfOk result (λ p. rows_of p.line.items 1 0 ≡ xor_rows 1 (rows_of line.now 1 0) (vertices_of change.entry).rows) }
+    ensures rows { IfOk result (λ p. rows_of p.line.items 1 0 ≡ changed_line line.now change.entry) }
     ensures across { IfOk result (λ p. p.across ≡ content (cells 1 (vertices_of change.entry).rows)) }
-    ensures shared { IfOk result (λ p. p.shared ≡ shared_length (rows_of line.now 1 0) (vertices_of change.entry).rows) }
+    ensures shared { IfOk result (λ p. p.shared ≡ shared_length line.now change.entry) }
 {
     let mut c = Line::of_rows(change);
     let low = c.head().unwrap_or(0);
