@@ -18,7 +18,7 @@ use Rattle.evm_sections.proofs.LineSteps.{past-le, past-lt, least-one}
 use Rattle.evm_sections.proofs.LineChanges.{not_lt, least-le, least-above, least-from, passes-to, even_end}
 use Rattle.evm_boolean.specs.Tower.{under, lower, gain}
 use Rattle.evm_boolean.proofs.Cuts.{lower-one}
-use Rattle.evm_boolean.proofs.TowerLaws.{flat_of-append}
+use Rattle.evm_rows.proofs.BoxTests.{flat_of-append}
 
 -- ---- the lower of two first numbers
 

@@ -2,7 +2,7 @@ use Rattle.std.proofs.Common.{◌≡◌, ℕ, List, ℤ, [], length, drop, ap, a
 use Rattle.std.specs.declared.cmp.Ordering.TheVariants.{Equal}
 use Rattle.std.proofs.Math.Seq.{drop-length}
 use Rattle.evm_rows.specs.Rows.{row_cmp}
-use Rattle.evm_boolean.proofs.merge.row_order.Goals as goal
+use Rattle.evm_rows.proofs.merge.row_order.Goals as goal
 
 -- nothing is left of two rows behind all numbers
 passed-all : (x y : List ℤ) (i : ℕ) → i ≡ length x → i ≡ length y → Equal ≡ row_cmp (drop i x) (drop i y)
