@@ -6,14 +6,12 @@ ghost use Rattle.evm_cells.specs.Vertices.{cells};
 ghost use Rattle.evm_cells.specs.Measures.{content, boundary};
 ghost use Rattle.evm_rows.specs.View.{vertices_of};
 
-mod line;
 mod plane;
 
-use crate::line::counted;
 use crate::plane::{Rooms, measure_plane};
 use evm_rows::{NoMemory, Rows, Solid, xor_into};
-use evm_sections::Walk;
 use evm_sections::marks::Marks;
+use evm_sections::{Walk, counted};
 use std::alloc::Global;
 
 // The length of the runs of a view of dimension 1.

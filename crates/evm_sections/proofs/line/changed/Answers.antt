@@ -1,18 +1,18 @@
-use Rattle.std.proofs.Common.{◌≡◌, List, ℤ, Some, true, length, refl, ap, ap₂, ◌∙◌, arith, rules, w32, int_lt, pos, ◌++◌}
+use Rattle.std.proofs.Common.{◌≡◌, List, ℤ, Some, true, refl, ap, ap₂, ◌∙◌, arith, rules, w32, int_lt, pos, ◌++◌}
 use Rattle.std.specs.Prelude.{unwrap_or}
 use mir.Val.{SFits}
 use Rattle.evm_cells.specs.Booleans.{xor}
-use Rattle.evm_cells.specs.Vertices.{cells, IsVertexList}
+use Rattle.evm_cells.specs.Vertices.{IsVertexList}
 use Rattle.evm_cells.proofs.Order.{rising}
-use Rattle.evm_rows.specs.Rows.{rows_of, xor_rows}
+use Rattle.evm_rows.specs.Rows.{rows_of}
 use Rattle.evm_sections.proofs.Bits.{same32}
 use Rattle.evm_sections.proofs.Zero.{differs}
-use Rattle.evm_boolean.specs.Lines.{firsts, head_of, least, if_any}
-use Rattle.evm_boolean.proofs.Lines.{rising-firsts, rows_of-ones}
-use Rattle.evm_boolean.proofs.LineSteps.{numbers-rise, firsts-numbers, two-fall, left-past, line_rows}
-use Rattle.evm_boolean.proofs.Planes.{Turning, turning_start, turning_more, turning_done, one_from, starts_at, starts_whole}
-use Rattle.evm_measure.proofs.Counting.{counting_start, counting_more, counted_all, counting_small, line-small, step_small, points-firsts}
-use Rattle.evm_measure.proofs.line.changed.Goals as goal
+use Rattle.evm_sections.specs.Lines.{firsts, head_of, least, if_any}
+use Rattle.evm_sections.proofs.Lines.{rising-firsts, rows_of-ones}
+use Rattle.evm_sections.proofs.LineSteps.{numbers-rise, firsts-numbers, two-fall, left-past, line_rows}
+use Rattle.evm_sections.proofs.LineChanges.{Turning, turning_start, turning_more, turning_done, one_from, starts_at, starts_whole}
+use Rattle.evm_sections.proofs.Counting.{counting_start, counting_more, counted_all, step_small, points-firsts}
+use Rattle.evm_sections.proofs.line.changed.Goals as goal
 
 pub loop-next-init : goal.loop-next-init
 loop-next-init c =
@@ -94,27 +94,6 @@ overflow_add-shared c =
     let x = s.1 in
     omega (arith, x)
 
-pub overflow_add-result : goal.overflow_add-result
-overflow_add-result c =
-    let x = c.requires.length in
-    let y = line-small (rows_of c.args.line.now 1 0) c.requires.line.vertices in
-    let z = (counting_small _ _ _ _ _ c.loop-next.across c.loop-next.shared c.loop-next.invariant.counting).0 in
-    omega (arith, x, y, z)
-
-pub overflow_mul-result : goal.overflow_mul-result
-overflow_mul-result c =
-    let z = (counting_small _ _ _ _ _ c.loop-next.across c.loop-next.shared c.loop-next.invariant.counting).1 in
-    omega (arith, z)
-
-pub overflow_sub-result : goal.overflow_sub-result
-overflow_sub-result c =
-    let V : List (List ℤ) = rows_of c.args.line.now 1 0 in
-    let C : List (List ℤ) = rows_of c.args.change.flat.now c.args.change.width c.args.change.skip in
-    let vc : IsVertexList 1 C = rw c.requires.change at c.args.change.vertices in
-    let (across, after) = counted_all c.args.line.now C _ c.loop-next.a c.loop-next.c c.loop-next.across c.loop-next.shared c.requires.line.vertices vc c.in_default.ensures c.loop-next.invariant.counting in
-    let x = c.requires.length in
-    omega (arith, x, across, after)
-
 pub returns-clause-across : goal.returns-clause-across
 returns-clause-across c =
     let V : List (List ℤ) = rows_of c.args.line.now 1 0 in
@@ -126,7 +105,7 @@ pub returns-clause-rows : goal.returns-clause-rows
 returns-clause-rows c =
     let vc : IsVertexList 1 (rows_of c.args.change.flat.now c.args.change.width c.args.change.skip) = rw c.requires.change at c.args.change.vertices in
     let s : Turning (firsts (rows_of c.args.line.now 1 0)) (firsts (rows_of c.args.change.flat.now c.args.change.width c.args.change.skip)) c.loop-next.out.items c.loop-next.a c.loop-next.c = rw (firsts-numbers c.args.line.now) c.loop-next.invariant.turning in
-    rows_of-ones _ ∙ turning_done (rows_of c.args.line.now 1 0) _ c.loop-next.out.items _ c.loop-next.a c.loop-next.c c.requires.line.vertices vc (c.in_default.ensures) c.in_ok-whole.ensures s
+    rows_of-ones _ ∙ turning_done (rows_of c.args.line.now 1 0) _ c.loop-next.out.items _ c.loop-next.a c.loop-next.c c.requires.line.vertices vc (c.in_default.ensures) c.in_ok-line.ensures s
 
 pub returns-clause-are_rows : goal.returns-clause-are_rows
 returns-clause-are_rows c =
@@ -134,14 +113,10 @@ returns-clause-are_rows c =
     let C : List (List ℤ) = rows_of c.args.change.flat.now c.args.change.width c.args.change.skip in
     let vc : IsVertexList 1 C = rw c.requires.change at c.args.change.vertices in
     let s : Turning (firsts V) (firsts C) c.loop-next.out.items c.loop-next.a c.loop-next.c = rw (firsts-numbers c.args.line.now) c.loop-next.invariant.turning in
-    line_rows V C _ (turning_done V C c.loop-next.out.items _ c.loop-next.a c.loop-next.c c.requires.line.vertices vc (c.in_default.ensures) c.in_ok-whole.ensures s)
+    line_rows V C _ (turning_done V C c.loop-next.out.items _ c.loop-next.a c.loop-next.c c.requires.line.vertices vc (c.in_default.ensures) c.in_ok-line.ensures s)
 
-pub returns-clause-length : goal.returns-clause-length
-returns-clause-length c =
-    let V : List (List ℤ) = rows_of c.args.line.now 1 0 in
+pub returns-clause-shared : goal.returns-clause-shared
+returns-clause-shared c =
     let C : List (List ℤ) = rows_of c.args.change.flat.now c.args.change.width c.args.change.skip in
     let vc : IsVertexList 1 C = rw c.requires.change at c.args.change.vertices in
-    let (across, after) = counted_all c.args.line.now C _ c.loop-next.a c.loop-next.c c.loop-next.across c.loop-next.shared c.requires.line.vertices vc c.in_default.ensures c.loop-next.invariant.counting in
-    let x = c.requires.length in
-    let rows : length (cells 1 (rows_of c.in_ok-whole.whole.items 1 0)) ≡ length (cells 1 (xor_rows 1 V C)) = ap (λ (R : List (List ℤ)). length (cells 1 R)) (returns-clause-rows c) in
-    omega (arith, x, across, after, rows)
+    (counted_all c.args.line.now C _ c.loop-next.a c.loop-next.c c.loop-next.across c.loop-next.shared c.requires.line.vertices vc c.in_default.ensures c.loop-next.invariant.counting).1

@@ -3,8 +3,8 @@ use mir.Val.{SFits}
 use Rattle.evm_rows.specs.Rows.{rows_of}
 use Rattle.evm_rows.proofs.RowsLaws.{rows_of-none}
 use Rattle.evm_sections.proofs.Bits.{same32}
-use Rattle.evm_boolean.proofs.LineSteps.{firsts-first, firsts-none, head-first, head-none}
-use Rattle.evm_boolean.proofs.line.Line.head.Goals as goal
+use Rattle.evm_sections.proofs.LineSteps.{firsts-first, firsts-none, head-first, head-none}
+use Rattle.evm_sections.proofs.line.Line.head.Goals as goal
 
 pub returns-then-self-eq0 : goal.returns-then-self-eq0
 returns-then-self-eq0 c =

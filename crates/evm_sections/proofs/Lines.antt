@@ -19,7 +19,7 @@ use Rattle.evm_cells.proofs.Core.{cells-evm, has-cells_even}
 use Rattle.evm_rows.specs.Rows.{rows_of, flat_of, combined_rows, xor_rows}
 use Rattle.evm_rows.proofs.RowsOrder.{Wide, rows_of-flat_of}
 use Rattle.evm_rows.proofs.Bridge.{vertices-op, wide-points}
-use Rattle.evm_boolean.specs.Lines.{firsts, ones, head_of, past, stands, if_any}
+use Rattle.evm_sections.specs.Lines.{firsts, ones, head_of, past, stands, if_any}
 
 -- whether the place x is filled
 abbrev pub par : List ℤ → ℤ → Bool
@@ -115,18 +115,24 @@ held op z false true y f g = absurd (false≢true (f refl))
 held op z false false true f g = absurd (false≢true (g refl))
 held op z false false false f g = sym z
 
-pub par-op : (op : Bool → Bool → Bool) (V W : List (List ℤ)) (x : ℤ) → op false false ≡ false → IsVertexList 1 V → IsVertexList 1 W → par (firsts (combined_rows op 1 V W)) x ≡ op (par (firsts V) x) (par (firsts W) x)
-unfolding combined_rows
-par-op op V W x z v w =
+-- a Boolean of the cells of two lines holds a place by whether each line fills it
+pub has-op : (op : Bool → Bool → Bool) (V W : List (List ℤ)) (x : ℤ) → op false false ≡ false → IsVertexList 1 V → IsVertexList 1 W
+    → has (combine op 1 (cells 1 V) (cells 1 W)) (x ∷ []) ≡ op (par (firsts V) x) (par (firsts W) x)
+has-op op V W x z v w =
     let A : List (List ℤ) = cells 1 V in
     let B : List (List ℤ) = cells 1 W in
     let a : IsCellSet 1 A = cell_set-cells 1 V in
     let b : IsCellSet 1 B = cell_set-cells 1 W in
-    par-cells (combined_rows op 1 V W) x (vertices-op op 1 V W)
-    ∙ ap (λ S. has S (x ∷ [])) (cells-evm 1 (combine op 1 A B) (cell_set-combine op 1 A B))
-    ∙ has-combine op 1 A B (x ∷ [])
+    has-combine op 1 A B (x ∷ [])
     ∙ held op z (is_cell 1 (x ∷ [])) (has A (x ∷ [])) (has B (x ∷ [])) (member_passes (is_cell 1) A (x ∷ []) a.cells) (member_passes (is_cell 1) B (x ∷ []) b.cells)
     ∙ ap₂ op (sym (par-cells V x v)) (sym (par-cells W x w))
+
+pub par-op : (op : Bool → Bool → Bool) (V W : List (List ℤ)) (x : ℤ) → op false false ≡ false → IsVertexList 1 V → IsVertexList 1 W → par (firsts (combined_rows op 1 V W)) x ≡ op (par (firsts V) x) (par (firsts W) x)
+unfolding combined_rows
+par-op op V W x z v w =
+    par-cells (combined_rows op 1 V W) x (vertices-op op 1 V W)
+    ∙ ap (λ S. has S (x ∷ [])) (cells-evm 1 (combine op 1 (cells 1 V) (cells 1 W)) (cell_set-combine op 1 (cells 1 V) (cells 1 W)))
+    ∙ has-op op V W x z v w
 
 pub par-xor : (V W : List (List ℤ)) (x : ℤ) → IsVertexList 1 V → IsVertexList 1 W → par (firsts (xor_rows 1 V W)) x ≡ xor (par (firsts V) x) (par (firsts W) x)
 unfolding xor_rows xor

@@ -9,13 +9,11 @@ use Rattle.evm_rows.specs.Rows.{rows_of, flat_of, xor_rows, AreRows}
 use Rattle.evm_rows.proofs.Bridge.{are_rows-flat, are_rows-nil, vertices-xor}
 use Rattle.evm_rows.proofs.RowsOrder.{Wide, rows_of-wide}
 use Rattle.evm_sections.proofs.Single.{wide-one}
-use Rattle.evm_boolean.proofs.Planes.{all_lower}
+use Rattle.evm_sections.proofs.LineChanges.{all_lower}
 use Rattle.std.specs.List.{list_all}
-use Rattle.evm_boolean.specs.Lines.{firsts, ones, head_of, past, stands, least, Course, passed}
-use Rattle.evm_boolean.specs.Tower.{lower}
-use Rattle.evm_boolean.proofs.Cuts.{lower-one}
+use Rattle.evm_sections.specs.Lines.{firsts, ones, head_of, past, stands, least, LineRest, passed}
 use Rattle.std.proofs.lemmas.Bool.{cases_Bool}
-use Rattle.evm_boolean.proofs.Lines.{rows_of-ones, firsts-ones, ones-firsts, flat_of-ones, rising-firsts}
+use Rattle.evm_sections.proofs.Lines.{rows_of-ones, firsts-ones, ones-firsts, flat_of-ones, rising-firsts}
 
 pub firsts-first : (rs : List (List ℤ)) (row : List ℤ) (rest : List (List ℤ)) (h : ℤ) → rs ≡ row ∷ rest → row ≡ h ∷ drop 1 row → firsts rs ≡ h ∷ firsts rest
 firsts-first rs row rest h e f = rw (e, f) refl
@@ -37,20 +35,20 @@ unfolding xor
 turned_on true = refl
 turned_on false = refl
 
-pub passed-none : (h : ℤ) (l : Course) → l.left ≡ [] → l ≡ passed h l
+pub passed-none : (h : ℤ) (l : LineRest) → l.left ≡ [] → l ≡ passed h l
 passed-none h l e =
     let p : l.left ≡ past h l.left = e ∙ ap (past h) (sym e) in
     let q : l.on ≡ xor l.on (stands h l.left) = sym (xor-false l.on) ∙ ap (λ w. xor l.on (stands h w)) (sym e) in
     λ i. record { left = p i; on = q i }
 
-pub passed-yes : (h x : ℤ) (l : Course) (xs : List ℤ) → l.left ≡ x ∷ xs → x ≡ h → record { left = xs; on = not l.on } ≡ passed h l
+pub passed-yes : (h x : ℤ) (l : LineRest) (xs : List ℤ) → l.left ≡ x ∷ xs → x ≡ h → record { left = xs; on = not l.on } ≡ passed h l
 passed-yes h x l xs e s =
     let t : int_eq x h ≡ true = eq_yes x h s in
     let p : xs ≡ past h l.left = rw (e, t) refl in
     let q : not l.on ≡ xor l.on (stands h l.left) = rw (e, t) (turned_on l.on) in
     λ i. record { left = p i; on = q i }
 
-pub passed-no : (h x : ℤ) (l : Course) (xs : List ℤ) → l.left ≡ x ∷ xs → (x ≡ h → ⊥) → l ≡ passed h l
+pub passed-no : (h x : ℤ) (l : LineRest) (xs : List ℤ) → l.left ≡ x ∷ xs → (x ≡ h → ⊥) → l ≡ passed h l
 passed-no h x l xs e s =
     let t : int_eq x h ≡ false = eq_no x h s in
     let p : l.left ≡ past h l.left = rw (e, t) refl in
@@ -79,15 +77,15 @@ below-more w i low a l m = ap (λ k. list_all (λ y. int_lt y low) (take k w)) (
 
 -- ---- each step leaves fewer numbers
 
-past-le : (h : ℤ) (w : List ℤ) → length (past h w) ≤ length w
+pub past-le : (h : ℤ) (w : List ℤ) → length (past h w) ≤ length w
 past-le h [] = omega arith
 past-le h (x ∷ w) = ⊎_elim (λ (t : int_eq x h ≡ true). rw t (omega arith)) (λ (t : int_eq x h ≡ false). rw t (omega arith)) (cases_Bool (int_eq x h))
 
-past-lt : (h : ℤ) (w : List ℤ) → head_of w ≡ Some h → length (past h w) < length w
+pub past-lt : (h : ℤ) (w : List ℤ) → head_of w ≡ Some h → length (past h w) < length w
 past-lt h [] e = cc
 past-lt h (x ∷ w) e = let q : x ≡ h = cc in rw (eq_yes x h q) (omega arith)
 
-least-one : (x h : ℤ) (o : Option ℤ) → h ≡ least x o → (h ≡ x) ⊎ (o ≡ Some h)
+pub least-one : (x h : ℤ) (o : Option ℤ) → h ≡ least x o → (h ≡ x) ⊎ (o ≡ Some h)
 least-one x h None e = inl e
 least-one x h (Some y) e = ⊎_elim
     (λ (t : int_lt y x ≡ true). let f : h ≡ y = rw t at e in inr (ap Some (sym f)))
@@ -103,28 +101,8 @@ two-fall n h a c low pick =
     (λ (e : head_of a ≡ Some h). let f = past-lt h a e in omega arith)
     (least-one n h (head_of a) pick)
 
-pub four-fall : (n h : ℤ) (a b c d : List ℤ) → Some n ≡ lower (head_of c) (head_of d) → h ≡ least (least n (head_of a)) (head_of b)
-    → (length (past h a) + length (past h b)) + (length (past h c) + length (past h d)) < (length a + length b) + (length c + length d)
-four-fall n h a b c d low pick =
-    let la = past-le h a in
-    let lb = past-le h b in
-    let lc = past-le h c in
-    let ld = past-le h d in
-    ⊎_elim
-    (λ (e : h ≡ least n (head_of a)).
-    ⊎_elim
-    (λ (f : h ≡ n).
-    ⊎_elim
-    (λ (g : head_of c ≡ Some n). let k = past-lt h c (g ∙ ap Some (sym f)) in omega arith)
-    (λ (g : head_of d ≡ Some n). let k = past-lt h d (g ∙ ap Some (sym f)) in omega arith)
-    (lower-one (head_of c) (head_of d) n low))
-    (λ (f : head_of a ≡ Some h). let k = past-lt h a f in omega arith)
-    (least-one n h (head_of a) e))
-    (λ (e : head_of b ≡ Some h). let k = past-lt h b e in omega arith)
-    (least-one (least n (head_of a)) h (head_of b) pick)
-
-pub left-past : (h : ℤ) (a b : Course) → b ≡ passed h a → length b.left ≡ length (past h a.left)
-left-past h a b e = ap (λ (l : Course). length l.left) e
+pub left-past : (h : ℤ) (a b : LineRest) → b ≡ passed h a → length b.left ≡ length (past h a.left)
+left-past h a b e = ap (λ (l : LineRest). length l.left) e
 
 -- the numbers of an exclusive or of two lines
 pub line_rows : (V C : List (List ℤ)) (w : List ℤ) → ones w ≡ xor_rows 1 V C → AreRows w 1 0

@@ -1,21 +1,21 @@
 -- The length of a line as the number of its filled places, and what a change does to it
-use Rattle.std.proofs.Common.{◌≡◌, ℕ, suc, ◌+◌, ◌*◌, Bool, true, false, cond, ◌&&◌, List, [], ◌∷◌, length, sum_by, ℤ, pos, negsuc, neg_ℤ, ◌-ℤ◌, ◌+ℤ◌, ◌<ℤ◌, ◌≤ℤ◌, refl, sym, ap, ap₂, ◌∙◌, arith}
+use Rattle.std.proofs.Common.{◌≡◌, ℕ, zero, suc, ◌+◌, ◌*◌, Bool, true, false, cond, ◌&&◌, List, [], ◌∷◌, length, sum_by, ℤ, pos, negsuc, neg_ℤ, ◌-ℤ◌, ◌+ℤ◌, ◌<ℤ◌, ◌≤ℤ◌, refl, sym, ap, ap₂, ◌∙◌, arith, zero-add, suc-add, mul-suc}
 use Rattle.std.specs.Prelude.{unsigned_abs, if◌then◌else◌}
 use Rattle.std.proofs.lemmas.Int.{ints as int_facts}
 use Rattle.std.proofs.lemmas.List.Sums.{sum_by-cons}
 use Rattle.evm_cells.specs.Places.{has, with_at}
 use Rattle.evm_cells.specs.Limits.{limit, ints, tuples, cell_coords, every_cell}
 use Rattle.evm_cells.specs.Sections.{slice}
-use Rattle.evm_cells.specs.Booleans.{xor}
+use Rattle.evm_cells.specs.Booleans.{xor, combine, and_cells}
 use Rattle.evm_cells.specs.Vertices.{cells, IsVertexList}
 use Rattle.evm_cells.proofs.Universe.{cell_set-cells}
 use Rattle.evm_cells.proofs.Layers.{content_by_sections}
+use Rattle.evm_cells.proofs.Combine.{cell_set-combine}
 use Rattle.evm_rows.specs.Rows.{xor_rows}
 use Rattle.evm_rows.proofs.Bridge.{vertices-xor}
 use Rattle.evm_sections.proofs.Sections.{bottom, bottom_is}
-use Rattle.evm_boolean.specs.Lines.{firsts}
-use Rattle.evm_boolean.proofs.Lines.{par, par-cells, par-xor}
-use Rattle.evm_measure.proofs.Sums.{sum_run}
+use Rattle.evm_sections.specs.Lines.{firsts}
+use Rattle.evm_sections.proofs.Lines.{par, par-cells, par-xor, has-op}
 
 -- 1 where it holds, else 0
 abbrev pub bit : Bool → ℕ
@@ -67,16 +67,43 @@ sum_both a b (x ∷ xs) =
     let h = bits (a x) (b x) in
     omega (arith, c, d, e, f, r, h)
 
+-- the length of what two lines share
+abbrev pub share_of : List (List ℤ) → List (List ℤ) → ℕ
+share_of V C = length (and_cells 1 (cells 1 V) (cells 1 C))
+
+-- what two lines share are the places that both fill
+pub shared_places : (V C : List (List ℤ)) → IsVertexList 1 V → IsVertexList 1 C → share_of V C ≡ all_filled (λ k. par (firsts V) k && par (firsts C) k)
+unfolding and_cells
+shared_places V C v c =
+    let S : List (List ℤ) = combine (λ a b. a && b) 1 (cells 1 V) (cells 1 C) in
+    content_by_sections 0 S (cell_set-combine (λ a b. a && b) 1 (cells 1 V) (cells 1 C))
+    ∙ ap (λ f. sum_by f (cell_coords 1)) (λ i k. (one_place S k ∙ ap bit (has-op (λ a b. a && b) V C k refl v c)) i)
+
 -- the length after a change, and twice what the line and the change share, are both lengths
 pub length_after : (V C : List (List ℤ)) → IsVertexList 1 V → IsVertexList 1 C
-    → length (cells 1 (xor_rows 1 V C)) + 2 * all_filled (λ k. par (firsts V) k && par (firsts C) k) ≡ length (cells 1 V) + length (cells 1 C)
+    → length (cells 1 (xor_rows 1 V C)) + 2 * share_of V C ≡ length (cells 1 V) + length (cells 1 C)
 length_after V C v c =
-    ap (λ z. z + 2 * all_filled (λ k. par (firsts V) k && par (firsts C) k))
+    ap₂ (λ y z. y + 2 * z)
     (line_content (xor_rows 1 V C) (vertices-xor 1 V C) ∙ ap (λ f. sum_by f (cell_coords 1)) (λ i k. ap bit (par-xor V C k v c) i))
+    (shared_places V C v c)
     ∙ sum_both (par (firsts V)) (par (firsts C)) (cell_coords 1)
     ∙ sym (ap₂ (λ x y. x + y) (line_content V v) (line_content C c))
 
 -- ---- filled places from a place on
+
+-- of the numbers from a on, the first d are alike
+pub sum_run : (g : ℤ → ℕ) (a : ℤ) (d m v : ℕ) → ((k : ℤ) → a ≤ℤ k → k <ℤ (a +ℤ pos d) → g k ≡ v) → sum_by g (ints a (d + m)) ≡ v * d + sum_by g (ints (a +ℤ pos d) m)
+unfolding ints
+sum_run g a zero m v e =
+    ap₂ (λ (j : ℕ) (z : ℤ). sum_by g (ints z j)) (zero-add m) (let q : a ≡ a +ℤ pos 0 = omega (arith, int_facts) in q) ∙ omega arith
+sum_run g a (suc d) m v e =
+    let h = sum_run g (a +ℤ pos 1) d m v (λ k x y. e k (omega (arith, int_facts)) (omega (arith, int_facts))) in
+    let here : g a ≡ v = e a (omega (arith, int_facts)) (omega (arith, int_facts)) in
+    ap (λ j. sum_by g (ints a j)) (suc-add d m)
+    ∙ sum_by-cons g a (ints (a +ℤ pos 1) (d + m))
+    ∙ ap₂ (λ x y. x + y) here h
+    ∙ ap (λ z. v + (v * d + sum_by g (ints z m))) (let q : a +ℤ pos 1 +ℤ pos d ≡ a +ℤ pos (suc d) = omega (arith, int_facts) in q)
+    ∙ omega (arith, mul-suc v d)
 
 -- where none is filled up to `level`
 pub from_low : (f : ℤ → ℕ) (level : ℤ) (high : ℕ) → ((k : ℤ) → k ≤ℤ level → f k ≡ 0) → bottom 1 ≤ℤ level → level +ℤ pos high ≡ pos (limit 1) → sum_by f (ints level high) ≡ sum_by f (cell_coords 1)

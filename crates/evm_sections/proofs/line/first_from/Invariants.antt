@@ -1,6 +1,6 @@
 use Rattle.std.proofs.Common.{◌≡◌, ◌-◌, ◌≤◌, length, take, drop, true, int_lt, int_le}
 use Rattle.std.specs.List.{list_all}
-use Rattle.evm_measure.proofs.line.first_from.Given as goal
+use Rattle.evm_sections.proofs.line.first_from.Given as goal
 
 abbrev pub invariant-loop-from : goal.invariant-loop-from
 invariant-loop-from l = record {

@@ -1,7 +1,12 @@
 -- Vertex lists of dimension 1 as ascending numbers, and what is left of one behind a walk
 use Rattle.std.specs.Prelude.{◌≡◌, ℕ, ◌+◌, ◌%◌, ◌≤◌, length, Bool, true, false, Option, Some, None, int_lt, ℤ, List, [], ◌∷◌, map, if◌then◌else◌}
 use Rattle.std.specs.Ordering.{int_eq}
-use Rattle.evm_cells.specs.Booleans.{xor}
+use Rattle.evm_cells.specs.Booleans.{xor, and_cells}
+use Rattle.evm_cells.specs.Measures.{content}
+use Rattle.evm_cells.specs.Vertices.{cells}
+use Rattle.evm_rows.specs.Rows.{rows_of, xor_rows}
+use Rattle.evm_rows.specs.View.{vertices_of}
+use Rattle.evm_rows.specs.declared.solid.Rows.{Rows}
 
 -- the first number of each row
 abbrev pub firsts : List (List ℤ) → List ℤ
@@ -38,13 +43,21 @@ abbrev pub if_any : Bool → ℤ → List ℤ
 if_any true x = x ∷ []
 if_any false x = []
 
+-- the vertices of a line of numbers after a change
+abbrev pub changed_line : List ℤ → Rows → List (List ℤ)
+changed_line line change = xor_rows 1 (rows_of line 1 0) (vertices_of change).rows
+
+-- the length of what a line of numbers and a change share
+abbrev pub shared_length : List ℤ → Rows → ℕ
+shared_length line change = content (and_cells 1 (cells 1 (rows_of line 1 0)) (cells 1 (vertices_of change).rows))
+
 -- what a clause sees of a line that is walked along: the vertices that are left, and whether the place before them is filled
-pub record Course : Type 0 where
+pub record LineRest : Type 0 where
   pub left : List ℤ
   pub on : Bool
 
 -- the line behind the number h
-abbrev pub passed : ℤ → Course → Course
+abbrev pub passed : ℤ → LineRest → LineRest
 passed h l = record { left = past h l.left; on = xor l.on (stands h l.left) }
 
 -- a flat list of whole rows of at most 6 numbers, of which one is left after the skip

@@ -1,31 +1,30 @@
 -- What a walk along a line and its change counts
-use Rattle.std.proofs.Common.{◌≡◌, ℕ, suc, ◌+◌, ◌*◌, ◌^◌, ◌≤◌, Bool, true, false, ◌&&◌, Option, Some, None, List, [], ◌∷◌, length, sum_by, ℤ, pos, ◌-ℤ◌, ◌+ℤ◌, ◌<ℤ◌, ◌≤ℤ◌, refl, sym, ap, ap₂, ◌∙◌, subst, arith, int_lt, int_le, neg_ℤ, zero-add, ⊎_elim}
+use Rattle.std.proofs.Common.{◌≡◌, ℕ, suc, ◌+◌, ◌*◌, ◌^◌, ◌≤◌, Bool, true, false, ◌&&◌, Some, None, List, [], ◌∷◌, length, sum_by, ℤ, pos, ◌-ℤ◌, ◌+ℤ◌, ◌≤ℤ◌, refl, sym, ap, ap₂, ◌∙◌, arith, int_le, neg_ℤ, zero-add, ⊎_elim}
 use Rattle.std.specs.Prelude.{unsigned_abs, unwrap_or, if◌then◌else◌}
 use Rattle.std.specs.Ordering.{int_eq}
 use Rattle.std.specs.List.{list_all}
 use Rattle.std.proofs.lemmas.Bool.{cases_Bool}
-use Rattle.std.proofs.lemmas.Int.{ints as int_facts, by_lt_z}
+use Rattle.std.proofs.lemmas.Int.{ints as int_facts}
 use Rattle.std.proofs.lemmas.List.Sums.{sum_by-cons}
-use Rattle.evm_cells.specs.Places.{has}
-use Rattle.evm_cells.specs.Limits.{limit, cell_coords, is_cell, is_point, is_point_coord, is_cell_coord, IsCellSet}
+use Rattle.evm_cells.specs.Limits.{limit, cell_coords, is_point, is_point_coord}
 use Rattle.evm_cells.specs.Vertices.{cells, IsVertexList}
 use Rattle.evm_cells.proofs.Xor.{xor-false, and-false, and_first, and_second, and_both}
 use Rattle.evm_cells.specs.Booleans.{xor}
-use Rattle.evm_cells.proofs.Order.{rising, refuted}
-use Rattle.evm_cells.proofs.Coords.{lt_is, lt_yes, point_is, cell_is}
-use Rattle.evm_cells.proofs.Universe.{cell_set-cells, member_passes, cell_parts, point_parts}
-use Rattle.evm_rows.specs.Rows.{xor_rows, rows_of}
+use Rattle.evm_cells.proofs.Coords.{point_is}
+use Rattle.evm_cells.proofs.Universe.{point_parts}
+use Rattle.evm_rows.specs.Rows.{rows_of}
 use Rattle.evm_rows.proofs.Bridge.{wide-points}
 use Rattle.evm_sections.proofs.Sections.{bottom, bottom_is}
-use Rattle.evm_boolean.specs.Lines.{firsts, ones, head_of, past, least, Course, passed}
-use Rattle.evm_boolean.proofs.Lines.{par, par-nil, par-above, par-cells, ones-firsts, rows_of-ones, all_lt, rest_rises, Ahead, line_stays, line_passes, from_first, head_above}
-use Rattle.evm_boolean.proofs.LineSteps.{firsts-numbers}
+use Rattle.evm_sections.specs.Lines.{firsts, ones, head_of, past, least, LineRest, passed}
+use Rattle.evm_sections.proofs.Lines.{par, par-nil, par-above, ones-firsts, rows_of-ones, all_lt, Ahead}
+use Rattle.evm_sections.proofs.LineSteps.{firsts-numbers}
+use Rattle.evm_sections.proofs.LineChanges.{least-le, even_end, no_head, Stepped, stepped}
 use Rattle.evm_cells.proofs.Bounds.{length-ints}
 use Rattle.evm_cells.proofs.Coords.{limit-small}
-use Rattle.evm_measure.proofs.Lengths.{bit, filled, all_filled, room, room_is, stretch, from_low, none_from, line_content, length_after}
+use Rattle.evm_sections.proofs.Lengths.{bit, filled, all_filled, room, room_is, stretch, from_low, none_from, line_content, share_of, shared_places}
 
 -- low is the place that the program keeps; across and shared are the filled places of the change, and of both, that were passed
-pub record Counting (A C : List ℤ) (low : ℤ) (a c : Course) (across shared : ℕ) : Type 0 where
+pub record Counting (A C : List ℤ) (low : ℤ) (a c : LineRest) (across shared : ℕ) : Type 0 where
   pub level : ℤ
   pub high : ℕ
   pub reach : level +ℤ pos high ≡ pos (limit 1)
@@ -55,7 +54,7 @@ low_is low (x ∷ C) p e =
     let (y, z) = point_is 1 x (and_first (is_point_coord 1 x) (list_all (is_point_coord 1) C) p) in
     (omega (arith, int_facts), omega (arith, int_facts))
 
-pub counting_start : (A C : List ℤ) (low : ℤ) (a c : Course) → list_all (is_point_coord 1) C ≡ true → list_all (int_le low) C ≡ true → low ≡ unwrap_or (head_of C) (pos 0)
+pub counting_start : (A C : List ℤ) (low : ℤ) (a c : LineRest) → list_all (is_point_coord 1) C ≡ true → list_all (int_le low) C ≡ true → low ≡ unwrap_or (head_of C) (pos 0)
     → Ahead (par A) (low -ℤ pos 1) a.on a.left → Ahead (par C) (low -ℤ pos 1) c.on c.left → c.on ≡ false → c.left ≡ C
     → Counting A C low a c 0 0
 counting_start A C low a c p f e sa sc off left =
@@ -78,34 +77,6 @@ counting_start A C low a c p f e sa sc off left =
 
 -- ---- a step
 
-least-le : (x : ℤ) (o : Option ℤ) → least x o ≤ℤ x
-least-le x None = omega (arith, int_facts)
-least-le x (Some y) = ⊎_elim
-    (λ (t : int_lt y x ≡ true). let k : y <ℤ x = lt_is y x t in rw t (omega (arith, int_facts)))
-    (λ (t : int_lt y x ≡ false). rw t (omega (arith, int_facts)))
-    (cases_Bool (int_lt y x))
-
-least-some : (x y : ℤ) → least x (Some y) ≤ℤ y
-least-some x y = ⊎_elim
-    (λ (t : int_lt y x ≡ true). rw t (let z : y ≤ℤ y = omega (arith, int_facts) in z))
-    (λ (t : int_lt y x ≡ false). rw t (by_lt_z y x (λ k. let bad : false ≡ true = sym t ∙ lt_yes y x k in cc) (λ k. k)))
-    (cases_Bool (int_lt y x))
-
-least-above : (l x : ℤ) (left : List ℤ) → l <ℤ x → rising int_lt (l ∷ left) ≡ true → l <ℤ least x (head_of left)
-least-above l x [] m a = m
-least-above l x (y ∷ left) m a = ⊎_elim
-    (λ (t : int_lt y x ≡ true). rw t (head_above l y (y ∷ left) a refl))
-    (λ (t : int_lt y x ≡ false). rw t m)
-    (cases_Bool (int_lt y x))
-
-least-from : (x h : ℤ) (left : List ℤ) → rising int_lt left ≡ true → h ≤ℤ least x (head_of left) → list_all (int_le h) left ≡ true
-least-from x h left a m = from_first h left a (λ y e. let k : least x (head_of left) ≤ℤ y = rw e (least-some x y) in omega (arith, int_facts))
-
-passes-to : (F : ℤ → Bool) (l h : ℤ) (a b : Course) → Ahead F l a.on a.left → l <ℤ h → list_all (int_le h) a.left ≡ true → b ≡ passed h a → Ahead F h b.on b.left
-passes-to F l h a b s m f e =
-    let P : Course → Type 0 = λ c. Ahead F h c.on c.left in
-    subst P (sym e) (line_passes F l h a.on a.left s m f)
-
 past-within : (h : ℤ) (w : List ℤ) → list_all (is_point_coord 1) w ≡ true → list_all (is_point_coord 1) (past h w) ≡ true
 past-within h [] e = e
 past-within h (x ∷ w) e = ⊎_elim
@@ -125,62 +96,34 @@ moved : (v : Bool) (low level at : ℤ) (p : ℕ) → (v ≡ true → low ≡ le
 moved true low level at p f e = e ∙ ap (λ z. unsigned_abs (at -ℤ z)) (f refl)
 moved false low level at p f e = e
 
-pub counting_more : (A C : List ℤ) (low n at : ℤ) (a c a' c' : Course) (across shared p q : ℕ)
+pub counting_more : (A C : List ℤ) (low n at : ℤ) (a c a' c' : LineRest) (across shared p q : ℕ)
     → Some n ≡ head_of c.left → at ≡ least n (head_of a.left) → a' ≡ passed at a → c' ≡ passed at c
     → p ≡ (if c.on then unsigned_abs (at -ℤ low) else 0) → q ≡ (if (a.on && c.on) then unsigned_abs (at -ℤ low) else 0)
     → Counting A C low a c across shared → Counting A C at a' c' (across + p) (shared + q)
 counting_more A C low n at a c a' c' across shared p q first pick pa pc ep eq s =
     let l : ℤ = s.level in
-    let ra : rising int_lt a.left ≡ true = rest_rises l a.left s.at_a.above in
-    let rc : rising int_lt c.left ≡ true = rest_rises l c.left s.at_c.above in
-    let up_n : l <ℤ n = head_above l n c.left s.at_c.above (sym first) in
-    let up_m : l <ℤ least n (head_of a.left) = least-above l n a.left up_n s.at_a.above in
-    let up : l <ℤ at = rw pick up_m in
-    let le_n : least n (head_of a.left) ≤ℤ n = least-le n (head_of a.left) in
-    let at_m : at ≤ℤ least n (head_of a.left) = rw (← pick) (let z : at ≤ℤ at = omega (arith, int_facts) in z) in
-    let at_n : at ≤ℤ n = omega (arith, int_facts) in
+    let t : Stepped A C l at a c a' c' = stepped A C l n at a c a' c' s.at_a s.at_c first pick pa pc in
+    let at_n : at ≤ℤ n = rw pick (least-le n (head_of a.left)) in
     let n_top : n ≤ℤ pos (limit 1) = head-within n c.left s.within first in
     let top : at ≤ℤ pos (limit 1) = omega (arith, int_facts) in
-    let fa : list_all (int_le at) a.left ≡ true = least-from n at a.left ra at_m in
-    let fc : list_all (int_le at) c.left ≡ true = from_first at c.left rc (λ y e. let q : Some n ≡ Some y = first ∙ e in let r : n ≡ y = cc in omega (arith, int_facts)) in
-    let on_a : (k : ℤ) → l ≤ℤ k → k <ℤ at → par A k ≡ a.on = λ k u v. line_stays (par A) l k at a.on a.left s.at_a u v fa in
-    let on_c : (k : ℤ) → l ≤ℤ k → k <ℤ at → par C k ≡ c.on = λ k u v. line_stays (par C) l k at c.on c.left s.at_c u v fc in
     record {
       level = at;
       high = room at;
       reach = room_is at top;
-      within = ap (λ (w : Course). list_all (is_point_coord 1) w.left) pc ∙ past-within at c.left s.within;
-      at_a = passes-to (par A) l at a a' s.at_a up fa pa;
-      at_c = passes-to (par C) l at c c' s.at_c up fc pc;
-      placed = λ t. refl;
-      crossed = stretch (par C) c.on l at s.high across p (all_filled (par C)) up top s.reach on_c (moved c.on low l at p s.placed ep) s.crossed;
-      met = stretch (λ k. par A k && par C k) (a.on && c.on) l at s.high shared q (all_filled (λ k. par A k && par C k)) up top s.reach
-          (λ k u v. ap₂ (λ x y. x && y) (on_a k u v) (on_c k u v)) (moved (a.on && c.on) low l at q (λ t. s.placed (and_second a.on c.on t)) eq) s.met;
+      within = ap (λ (w : LineRest). list_all (is_point_coord 1) w.left) pc ∙ past-within at c.left s.within;
+      at_a = t.at_a;
+      at_c = t.at_c;
+      placed = λ _. refl;
+      crossed = stretch (par C) c.on l at s.high across p (all_filled (par C)) t.up top s.reach t.on_c (moved c.on low l at p s.placed ep) s.crossed;
+      met = stretch (λ k. par A k && par C k) (a.on && c.on) l at s.high shared q (all_filled (λ k. par A k && par C k)) t.up top s.reach
+          (λ k u v. ap₂ (λ x y. x && y) (t.on_a k u v) (t.on_c k u v)) (moved (a.on && c.on) low l at q (λ b. s.placed (and_second a.on c.on b)) eq) s.met;
     }
 
 -- ---- the end
 
--- beyond its last vertex a line is empty
-even_end : (C : List (List ℤ)) (l : ℤ) (on : Bool) (left : List ℤ) → IsVertexList 1 C → Ahead (par (firsts C)) l on left → left ≡ [] → on ≡ false
-even_end C l on left v a e = by_lt_z l (pos (limit 1)) (λ k. far (pos (limit 1)) (omega (arith, int_facts)) (let z : pos (limit 1) ≤ℤ pos (limit 1) = omega (arith, int_facts) in z)) (λ k. far l (let z : l ≤ℤ l = omega (arith, int_facts) in z) k)
-  where
-    none : (x : ℤ) → pos (limit 1) ≤ℤ x → has (cells 1 C) (x ∷ []) ≡ false
-    none x k = refuted (has (cells 1 C) (x ∷ [])) (λ m.
-        let s : IsCellSet 1 (cells 1 C) = cell_set-cells 1 C in
-        let (u, w) = cell_parts 1 (x ∷ []) (member_passes (is_cell 1) (cells 1 C) (x ∷ []) s.cells m) in
-        let (y, z) = cell_is 1 x (and_first (is_cell_coord 1 x) true w) in
-        omega (arith, int_facts))
-
-    far : (x : ℤ) → l ≤ℤ x → pos (limit 1) ≤ℤ x → on ≡ false
-    far x k m = sym (xor-false on) ∙ ap (xor on) (sym (par-nil x) ∙ ap (λ w. par w x) (sym e)) ∙ sym (a.ahead x k) ∙ par-cells C x v ∙ none x m
-
-no_head : (w : List ℤ) → None ≡ head_of w → w ≡ []
-no_head [] e = refl
-no_head (x ∷ w) e = cc
-
-counting_done : (V C : List (List ℤ)) (low : ℤ) (a c : Course) (across shared : ℕ) → IsVertexList 1 V → IsVertexList 1 C → None ≡ head_of c.left
+pub counting_done : (V C : List (List ℤ)) (low : ℤ) (a c : LineRest) (across shared : ℕ) → IsVertexList 1 V → IsVertexList 1 C → None ≡ head_of c.left
     → Counting (firsts V) (firsts C) low a c across shared
-    → (across ≡ length (cells 1 C)) × (length (cells 1 (xor_rows 1 V C)) + 2 * shared ≡ length (cells 1 V) + length (cells 1 C))
+    → (across ≡ length (cells 1 C)) × (shared ≡ share_of V C)
 counting_done V C low a c across shared v vc last s =
     let l : ℤ = s.level in
     let A : List ℤ = firsts V in
@@ -191,7 +134,7 @@ counting_done V C low a c across shared v vc last s =
     let no_more : filled (par D) l s.high ≡ 0 = none_from (λ k. bit (par D k)) l s.high (λ k m. ap bit (still k m)) in
     let no_both : filled (λ k. par A k && par D k) l s.high ≡ 0 = none_from (λ k. bit (par A k && par D k)) l s.high (λ k m. ap bit (ap (λ t. par A k && t) (still k m) ∙ and-false (par A k))) in
     let all : length (cells 1 C) ≡ all_filled (par D) = line_content C vc in
-    let both = length_after V C v vc in
+    let both : share_of V C ≡ all_filled (λ k. par A k && par D k) = shared_places V C v vc in
     let x = s.crossed in
     let y = s.met in
     (omega (arith, no_more, all, x), omega (arith, no_both, both, y))
@@ -222,7 +165,7 @@ all-small G =
 pub line-small : (V : List (List ℤ)) → IsVertexList 1 V → length (cells 1 V) ≤ 2 ^ 31
 line-small V v = let a = line_content V v in let b = all-small (par (firsts V)) in omega (arith, a, b)
 
-pub counting_small : (A C : List ℤ) (low : ℤ) (a c : Course) (across shared : ℕ) → Counting A C low a c across shared → (across ≤ 2 ^ 31) × (shared ≤ 2 ^ 31)
+pub counting_small : (A C : List ℤ) (low : ℤ) (a c : LineRest) (across shared : ℕ) → Counting A C low a c across shared → (across ≤ 2 ^ 31) × (shared ≤ 2 ^ 31)
 counting_small A C low a c across shared s =
     let x = s.crossed in
     let y = s.met in
@@ -239,7 +182,7 @@ rows-many w = ap length (rows_of-ones w) ∙ by w
     by (x ∷ w) = ap suc (by w)
 
 -- and after a step, too
-pub step_small : (A C : List ℤ) (low n at : ℤ) (a c : Course) (across shared p q : ℕ)
+pub step_small : (A C : List ℤ) (low n at : ℤ) (a c : LineRest) (across shared p q : ℕ)
     → Some n ≡ head_of c.left → at ≡ least n (head_of a.left)
     → p ≡ (if c.on then unsigned_abs (at -ℤ low) else 0) → q ≡ (if (a.on && c.on) then unsigned_abs (at -ℤ low) else 0)
     → Counting A C low a c across shared → (across + p ≤ 2 ^ 31) × (shared + q ≤ 2 ^ 31)
@@ -248,7 +191,7 @@ step_small A C low n at a c across shared p q first pick ep eq s =
     (counting_more A C low n at a c (passed at a) (passed at c) across shared p q first pick refl refl ep eq s)
 
 -- the same at the numbers of a line
-pub counted_all : (w : List ℤ) (C : List (List ℤ)) (low : ℤ) (a c : Course) (across shared : ℕ) → IsVertexList 1 (rows_of w 1 0) → IsVertexList 1 C → None ≡ head_of c.left
+pub counted_all : (w : List ℤ) (C : List (List ℤ)) (low : ℤ) (a c : LineRest) (across shared : ℕ) → IsVertexList 1 (rows_of w 1 0) → IsVertexList 1 C → None ≡ head_of c.left
     → Counting w (firsts C) low a c across shared
-    → (across ≡ length (cells 1 C)) × (length (cells 1 (xor_rows 1 (rows_of w 1 0) C)) + 2 * shared ≡ length (cells 1 (rows_of w 1 0)) + length (cells 1 C))
+    → (across ≡ length (cells 1 C)) × (shared ≡ share_of (rows_of w 1 0) C)
 counted_all w C low a c across shared v vc last s = counting_done (rows_of w 1 0) C low a c across shared v vc last (rw (firsts-numbers w) s)

@@ -1,9 +1,9 @@
 use Rattle.std.proofs.Common.{◌+◌, length}
 use Rattle.evm_rows.specs.Rows.{rows_of}
-use Rattle.evm_boolean.specs.Lines.{firsts}
-use Rattle.evm_boolean.proofs.Planes.{Turning}
-use Rattle.evm_measure.proofs.Counting.{Counting}
-use Rattle.evm_measure.proofs.line.changed.Given as goal
+use Rattle.evm_sections.specs.Lines.{firsts}
+use Rattle.evm_sections.proofs.LineChanges.{Turning}
+use Rattle.evm_sections.proofs.Counting.{Counting}
+use Rattle.evm_sections.proofs.line.changed.Given as goal
 
 abbrev pub invariant-loop-next : goal.invariant-loop-next
 invariant-loop-next l = record {

@@ -1,33 +1,45 @@
-// Lines: views of dimension 1 as ascending numbers. A line after a change, and its length.
-//
-// Only the span of the change is looked at: the numbers of a line below it are skipped by a search, and copied as one.
+//! Lines: views of dimension 1 as ascending numbers, walked along, and changed.
+//!
+//! Of a change only the span is looked at: the numbers of a line below it are skipped by a search, and copied as one.
 ghost use Rattle.std.specs.Prelude.{◌≡◌, ◌++◌, ◌<◌, ◌≤◌, ◌-◌, ◌%◌, ◌-ℤ◌, ◌&&◌, IsTrue, int_le, int_lt, length, take, drop, unsigned_abs, IfOk, OnOk, false, if◌then◌else◌};
 ghost use Rattle.std.specs.List.{list_all};
 ghost use Rattle.evm_cells.specs.Measures.{content};
 ghost use Rattle.evm_cells.specs.Vertices.{cells, odd};
-ghost use Rattle.evm_rows.specs.Rows.{AreRows, rows_of, xor_rows};
+ghost use Rattle.evm_rows.specs.Rows.{AreRows, rows_of};
 ghost use Rattle.evm_rows.specs.View.{vertices_of};
-ghost use Rattle.evm_boolean.specs.Lines.{firsts, head_of, least, if_any, passed, IsLine};
+ghost use Rattle.evm_sections.specs.Lines.{firsts, head_of, least, if_any, passed, changed_line, shared_length, IsLine};
 
+use crate::walk::first_of;
 use evm_rows::{NoMemory, Rows, append_rows, split_row};
-use evm_sections::first_of;
 use std::alloc::AllocError;
 use std::marker::Model;
 
-// The vertices of a line that are left, and whether the place before them is filled.
+/// A line that is walked along, from its lowest number up. Its meaning is the numbers that are left, and whether the
+/// place before them is filled. It borrows the numbers, and holds no memory of its own.
 #[derive(Drop)]
-struct Line<'a> {
+pub struct Line<'a> {
     flat: &'a [i32],
     width: usize,
     skip: usize,
     on: bool,
 }
 
+/// A line after a change, with two lengths.
+#[derive(Drop)]
+pub struct LineAfter {
+    /// The numbers of the line, ascending.
+    pub line: Vec<i32>,
+    /// The length of the change: how many places it fills. At most `2^31`.
+    pub across: u64,
+    /// The length of what the change shares with the line before it.
+    pub shared: u64,
+}
+
 impl<'a> Model for Line<'a> {
     ghost use Rattle.evm_rows.specs.Rows.{rows_of};
-    ghost use Rattle.evm_boolean.specs.Lines.{Course, IsLine, firsts};
+    ghost use Rattle.evm_sections.specs.Lines.{LineRest, IsLine, firsts};
 
-    ghost Value = { Course };
+    ghost Value = { LineRest };
 
     ghost view = { λ l. record { left = firsts (rows_of l.flat.now l.width l.skip); on = l.on } };
 
@@ -35,8 +47,8 @@ impl<'a> Model for Line<'a> {
 }
 
 impl<'a> Line<'a> {
-    // The numbers of a line from the place `from` on.
-    fn of(numbers: &'a [i32], from: usize) -> Line<'a>
+    /// The numbers of a line from the place `from` on, counted from 0; those before it were passed. Takes no memory.
+    pub fn of(numbers: &'a [i32], from: usize) -> Line<'a>
         requires { from ≤ length numbers.now }
         ensures left { result.left ≡ drop from numbers.now }
         ensures on { result.on ≡ odd from }
@@ -50,8 +62,8 @@ impl<'a> Line<'a> {
         }
     }
 
-    // The numbers of a view of dimension 1.
-    fn of_rows(a: Rows<'a>) -> Line<'a>
+    /// All numbers of a view of dimension 1. Takes no memory.
+    pub fn of_rows(a: Rows<'a>) -> Line<'a>
         requires { (vertices_of a).dim ≡ 1 }
         ensures left { result.left ≡ firsts (vertices_of a.entry).rows }
         ensures on { result.on ≡ false }
@@ -64,16 +76,17 @@ impl<'a> Line<'a> {
         }
     }
 
-    // Whether the place before the numbers that are left is filled.
-    fn on(&self) -> bool
+    /// Whether the place before the numbers that are left is filled: whether an odd number of them was passed. Takes no
+    /// memory.
+    pub fn on(&self) -> bool
         ensures { result ≡ self.now.on }
     {
         self.on
     }
 
-    // The next number.
+    /// The next number, or `None` where all were passed. Takes no memory.
     #[inline(always)]
-    fn head(&self) -> Option<i32>
+    pub fn head(&self) -> Option<i32>
         ensures { result ≡ head_of self.now.left }
     {
         if self.flat.len() == 0 {
@@ -83,9 +96,9 @@ impl<'a> Line<'a> {
         Some(first_of(row))
     }
 
-    // Goes past the height, if it is the next number.
+    /// Goes past the height, if it is the next number; else the line stays. Takes no memory.
     #[inline(always)]
-    fn pass(&mut self, height: i32)
+    pub fn pass(&mut self, height: i32)
         ensures { self.new ≡ passed height self.old }
     {
         if self.flat.len() == 0 {
@@ -98,8 +111,9 @@ impl<'a> Line<'a> {
         }
     }
 
-    // Appends the numbers that are left.
-    fn append_left(&self, out: Vec<i32>) -> Result<Vec<i32>, NoMemory>
+    /// Appends the numbers that are left to `out`. Takes memory only where `out` has no room left. `NoMemory` is want of
+    /// memory, and `out` is gone then.
+    pub fn append_left(&self, out: Vec<i32>) -> Result<Vec<i32>, NoMemory>
         ensures { IfOk result (λ v. v.items ≡ out.items ++ self.now.left) }
     {
         let grown = append_rows(out, self.flat, self.width, self.skip)?;
@@ -107,9 +121,9 @@ impl<'a> Line<'a> {
     }
 }
 
-// The lower of two numbers, of which the second may be missing.
+/// The lower of two numbers, of which the second may be missing. Takes no memory.
 #[inline(always)]
-fn least(x: i32, y: Option<i32>) -> i32
+pub fn least(x: i32, y: Option<i32>) -> i32
     ensures { result ≡ least x y }
 {
     match y {
@@ -118,8 +132,9 @@ fn least(x: i32, y: Option<i32>) -> i32
     }
 }
 
-// The place of the first of ascending numbers that is not below `low`.
-fn first_from(numbers: &[i32], low: i32) -> usize
+/// The place, counted from 0, of the first of ascending numbers that is not below `low`; their count where all are. Found
+/// by halving. Takes no memory.
+pub fn first_from(numbers: &[i32], low: i32) -> usize
     requires { AreRows numbers.now 1 0 }
     ensures within { result ≤ length numbers.now }
     ensures below { IsTrue (list_all (λ y. int_lt y low) (take result numbers.now)) }
@@ -149,7 +164,7 @@ fn append_number(out: &mut Vec<i32>, at: i32, yes: bool) -> Result<(), AllocErro
     Ok(())
 }
 
-/// How far the heights are apart, if a run is between them. Takes no memory.
+/// How far two heights are apart, `low` the lower, if a run is between them; else 0. Takes no memory.
 #[inline(always)]
 pub fn counted(on: bool, low: i32, high: i32) -> u64
     ensures { result ≡ (if on then unsigned_abs (high -ℤ low) else 0) }
@@ -165,22 +180,19 @@ fn counted_in_both(in_a: bool, in_c: bool, low: i32, high: i32) -> u64
     if in_a { counted(in_c, low, high) } else { 0 }
 }
 
-/// The line after a change, in the room of a list that is done with; its length, where `length` is that before the change; and
-/// the length of the change. Takes memory only where the room is too small. After want of memory the room is gone.
+/// The line after a change, in the room of a list that is done with, with the length of the change and of what the change
+/// shares with the line before. What `room` holds does not matter.
+///
+/// The numbers of the line below the change are copied as one, those above it too: the walk is only along the span of the
+/// change. Takes memory only where the room is too small. `NoMemory` is want of memory, and the room is gone then.
 #[inline(always)]
-pub fn changed(
-    room: Vec<i32>,
-    line: &[i32],
-    length: u64,
-    change: Rows<'_>,
-) -> Result<(Vec<i32>, u64, u64), NoMemory>
+pub fn changed(room: Vec<i32>, line: &[i32], change: Rows<'_>) -> Result<LineAfter, NoMemory>
     requires line { AreRows line.now 1 0 }
-    requires length { length ≡ content (cells 1 (rows_of line.now 1 0)) }
     requires change { (vertices_of change).dim ≡ 1 }
-    ensures are_rows { IfOk result (λ p. AreRows p.0.items 1 0) }
-    ensures rows { IfOk result (λ p. rows_of p.0.items 1 0 ≡ xor_rows 1 (rows_of line.now 1 0) (vertices_of change.entry).rows) }
-    ensures length { IfOk result (λ p. p.1 ≡ content (cells 1 (rows_of p.0.items 1 0))) }
-    ensures across { IfOk result (λ p. p.2 ≡ content (cells 1 (vertices_of change.entry).rows)) }
+    ensures are_rows { IfOk result (λ p. AreRows p.line.items 1 0) }
+    ensures rows { IfOk result (λ p. rows_of p.line.items 1 0 ≡ changed_line line.now change.entry) }
+    ensures across { IfOk result (λ p. p.across ≡ content (cells 1 (vertices_of change.entry).rows)) }
+    ensures shared { IfOk result (λ p. p.shared ≡ shared_length line.now change.entry) }
 {
     let mut c = Line::of_rows(change);
     let low = c.head().unwrap_or(0);
@@ -206,6 +218,10 @@ pub fn changed(
         append_number(&mut out, at, before != after)?;
         level = at;
     }
-    let whole = a.append_left(out)?;
-    Ok((whole, length + across - 2 * shared, across))
+    let line = a.append_left(out)?;
+    Ok(LineAfter {
+        line,
+        across,
+        shared,
+    })
 }

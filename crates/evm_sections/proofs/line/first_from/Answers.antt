@@ -2,9 +2,9 @@ use Rattle.std.proofs.Common.{◌+◌, ◌-◌, ◌/◌, get_or, pos, rules, ari
 use mir.Val.{SFits}
 use Rattle.std.proofs.lemmas.Int.{ints as int_facts}
 use Rattle.evm_sections.proofs.Bits.{same32}
-use Rattle.evm_boolean.proofs.Planes.{all_higher}
-use Rattle.evm_boolean.proofs.LineSteps.{below-more, numbers-rise}
-use Rattle.evm_measure.proofs.line.first_from.Goals as goal
+use Rattle.evm_sections.proofs.LineChanges.{all_higher}
+use Rattle.evm_sections.proofs.LineSteps.{below-more, numbers-rise}
+use Rattle.evm_sections.proofs.line.first_from.Goals as goal
 
 pub loop-from-preserved-then-numbers-middle : goal.loop-from-preserved-then-numbers-middle
 loop-from-preserved-then-numbers-middle c =
