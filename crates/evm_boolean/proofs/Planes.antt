@@ -10,13 +10,13 @@ use Rattle.evm_cells.specs.Vertices.{IsVertexList}
 use Rattle.evm_cells.proofs.Xor.{xor-false, xor_self}
 use Rattle.evm_cells.proofs.Order.{rising}
 use Rattle.evm_cells.proofs.Coords.{lt_is}
-use Rattle.evm_rows.specs.Rows.{flat_of, combined_rows, xor_rows}
+use Rattle.evm_rows.specs.Rows.{flat_of, combined_rows, xor_rows, raised}
 use Rattle.evm_rows.proofs.Bridge.{vertices-op, vertices-xor}
 use Rattle.evm_sections.specs.Lines.{firsts, ones, head_of, past, least, if_any, LineRest, passed}
 use Rattle.evm_sections.proofs.Lines.{par, par-nil, par-above, par-op, par-xor, by_places, all_lt, rest_rises, Ahead, line_stays, from_first, line_now, head_above, Built, built_stays, built_more}
 use Rattle.evm_sections.proofs.LineSteps.{past-le, past-lt, least-one}
 use Rattle.evm_sections.proofs.LineChanges.{not_lt, least-le, least-above, least-from, passes-to, even_end}
-use Rattle.evm_boolean.specs.Tower.{under, lower, gain}
+use Rattle.evm_boolean.specs.Tower.{lower, gain}
 use Rattle.evm_boolean.proofs.Cuts.{lower-one}
 use Rattle.evm_rows.proofs.BoxTests.{flat_of-append}
 
@@ -107,7 +107,7 @@ no_gain op a b = ap₂ (λ x y. xor (op a b) (op x y)) (xor-false a) (xor-false 
 pub record Gaining (op : Bool → Bool → Bool) (A B C D : List ℤ) (height : ℤ) (start out : List ℤ) (on : Bool) (a b c d : LineRest) : Type 0 where
   pub level : ℤ
   pub written : List ℤ
-  pub kept : out ≡ start ++ flat_of (under height (ones written))
+  pub kept : out ≡ start ++ flat_of (raised (Some height) (ones written))
   pub built : Built (gains op A B C D) level written on
   pub at_a : Ahead (par A) level a.on a.left
   pub at_b : Ahead (par B) level b.on b.left
@@ -117,11 +117,11 @@ pub record Gaining (op : Bool → Bool → Bool) (A B C D : List ℤ) (height : 
 four : (op : Bool → Bool → Bool) (a b c d p q r s : Bool) → a ≡ p → b ≡ q → c ≡ r → d ≡ s → gain op a b c d ≡ gain op p q r s
 four op a b c d p q r s e f g h = ap₂ (λ x y. xor (op x y) (op (xor x c) (xor y d))) e f ∙ ap₂ (λ x y. xor (op p q) (op (xor p x) (xor q y))) g h
 
-more_rows : (start out grown : List ℤ) (h : ℤ) (v w : List ℤ) → out ≡ start ++ flat_of (under h (ones v)) → grown ≡ out ++ flat_of (under h (ones w)) → grown ≡ start ++ flat_of (under h (ones (v ++ w)))
+more_rows : (start out grown : List ℤ) (h : ℤ) (v w : List ℤ) → out ≡ start ++ flat_of (raised (Some h) (ones v)) → grown ≡ out ++ flat_of (raised (Some h) (ones w)) → grown ≡ start ++ flat_of (raised (Some h) (ones (v ++ w)))
 more_rows start out grown h v w e f =
-    f ∙ ap (λ z. z ++ flat_of (under h (ones w))) e ∙ append_assoc start (flat_of (under h (ones v))) (flat_of (under h (ones w)))
-    ∙ ap (λ z. start ++ z) (sym (flat_of-append (under h (ones v)) (under h (ones w)))
-    ∙ ap flat_of (sym (map-append (λ r. h ∷ r) (ones v) (ones w)) ∙ ap (under h) (sym (map-append (λ x. x ∷ []) v w))))
+    f ∙ ap (λ z. z ++ flat_of (raised (Some h) (ones w))) e ∙ append_assoc start (flat_of (raised (Some h) (ones v))) (flat_of (raised (Some h) (ones w)))
+    ∙ ap (λ z. start ++ z) (sym (flat_of-append (raised (Some h) (ones v)) (raised (Some h) (ones w)))
+    ∙ ap flat_of (sym (map-append (λ r. h ∷ r) (ones v) (ones w)) ∙ ap (raised (Some h)) (sym (map-append (λ x. x ∷ []) v w))))
 
 pub gaining_start : (op : Bool → Bool → Bool) (A B C D : List ℤ) (height low : ℤ) (start : List ℤ) (a b c d : LineRest)
     → list_all (int_le low) C ≡ true → list_all (int_le low) D ≡ true
@@ -153,7 +153,7 @@ pub gaining_more : (op : Bool → Bool → Bool) (A B C D : List ℤ) (height : 
     → at ≡ least (least n (head_of a.left)) (head_of b.left)
     → a' ≡ passed at a → b' ≡ passed at b → c' ≡ passed at c → d' ≡ passed at d
     → next ≡ gain op a'.on b'.on c'.on d'.on
-    → grown ≡ out ++ flat_of (under height (ones (if_any (xor on next) at)))
+    → grown ≡ out ++ flat_of (raised (Some height) (ones (if_any (xor on next) at)))
     → Gaining op A B C D height start out on a b c d
     → Gaining op A B C D height start grown next a' b' c' d'
 gaining_more op A B C D height start out grown on next a b c d a' b' c' d' n at low pick pa pb pc pd now wrote s =
@@ -202,7 +202,7 @@ pub gaining_done : (op : Bool → Bool → Bool) (V W C D : List (List ℤ)) (he
     → op false false ≡ false → IsVertexList 1 V → IsVertexList 1 W → IsVertexList 1 C → IsVertexList 1 D
     → None ≡ lower (head_of c.left) (head_of d.left)
     → Gaining op (firsts V) (firsts W) (firsts C) (firsts D) height start out on a b c d
-    → out ≡ start ++ flat_of (under height (xor_rows 1 (combined_rows op 1 V W) (combined_rows op 1 (xor_rows 1 V C) (xor_rows 1 W D))))
+    → out ≡ start ++ flat_of (raised (Some height) (xor_rows 1 (combined_rows op 1 V W) (combined_rows op 1 (xor_rows 1 V C) (xor_rows 1 W D))))
 gaining_done op V W C D height start out on a b c d z v w vc vd none s =
     let T : List (List ℤ) = xor_rows 1 (combined_rows op 1 V W) (combined_rows op 1 (xor_rows 1 V C) (xor_rows 1 W D)) in
     let l : ℤ = s.level in
@@ -223,5 +223,5 @@ gaining_done op V W C D height start out on a b c d z v w vc vd none s =
     λ x. par-xor (combined_rows op 1 V W) (combined_rows op 1 (xor_rows 1 V C) (xor_rows 1 W D)) x (vertices-op op 1 V W) (vertices-op op 1 (xor_rows 1 V C) (xor_rows 1 W D))
     ∙ ap₂ xor (par-op op V W x z v w)
     (par-op op (xor_rows 1 V C) (xor_rows 1 W D) x z (vertices-xor 1 V C) (vertices-xor 1 W D) ∙ ap₂ op (par-xor V C x v vc) (par-xor W D x w vd)) in
-    s.kept ∙ ap (λ rs. start ++ flat_of (under height rs))
+    s.kept ∙ ap (λ rs. start ++ flat_of (raised (Some height) rs))
     (by_places T s.written (vertices-xor 1 (combined_rows op 1 V W) (combined_rows op 1 (xor_rows 1 V C) (xor_rows 1 W D))) s.built.rises (λ x. places x ∙ sym (is x)))

@@ -18,13 +18,13 @@ use Rattle.evm_cells.proofs.Combine.{cell_set-combine, has-combine}
 use Rattle.evm_cells.proofs.Core.{evm-cells}
 use Rattle.evm_cells.proofs.Slices.{cell_set-slice}
 use Rattle.evm_cells.proofs.Layers.{rows-evm, slice-combine, no_couplet, evm-empty, cells-empty, vertices_by_couplets, slice_outside, no_empty_point}
-use Rattle.evm_rows.specs.Rows.{combined_rows, xor_rows}
+use Rattle.evm_rows.specs.Rows.{combined_rows, xor_rows, raised}
 use Rattle.evm_sections.specs.Couplets.{couplets_of, first_height, rise_above}
 use Rattle.evm_sections.proofs.Heights.{rows_at-append, rows_at-yes, rows_at-no, rows_at-none}
 use Rattle.evm_sections.proofs.Sections.{Above, stays, waits, steps, starts, bottom, outside, low_outside, combined_rows-evm, xor_rows-evm}
 use Rattle.evm_boolean.specs.declared.boolean.Op2.{Op2}
 use Rattle.evm_boolean.specs.declared.boolean.Op2.TheVariants.{Or, And, Sub, Xor}
-use Rattle.evm_boolean.specs.Tower.{under, lower, after, section_at, couplet_here, fills}
+use Rattle.evm_boolean.specs.Tower.{lower, after, section_at, couplet_here, fills}
 use Rattle.evm_boolean.proofs.Cuts.{From, from-left, from-right, lower-one, first-above}
 use Rattle.evm_boolean.proofs.TowerSteps.{cuts_of, tower, cuts_of-step, lower-none}
 
@@ -34,14 +34,14 @@ abbrev pub starts_above : ℤ → List ℤ → Bool
 starts_above l [] = false
 starts_above l (x ∷ p) = int_lt l x
 
-points-under : (n : ℕ) (h : ℤ) (E : List (List ℤ)) → list_all (is_point (suc n)) E ≡ true → ((is_point (suc n) [] ≡ true) → ⊥) → list_all (is_point (suc n)) (under h (rows_at 0 h E)) ≡ true
+points-under : (n : ℕ) (h : ℤ) (E : List (List ℤ)) → list_all (is_point (suc n)) E ≡ true → ((is_point (suc n) [] ≡ true) → ⊥) → list_all (is_point (suc n)) (raised (Some h) (rows_at 0 h E)) ≡ true
 unfolding rows_at without
 points-under n h [] a no_nil = refl
 points-under n h ([] ∷ E) a no_nil = absurd (no_nil (and_first (is_point (suc n) []) (list_all (is_point (suc n)) E) a))
 points-under n h ((x ∷ p) ∷ E) a no_nil = at (int_eq x h) refl (points-under n h E (and_second (is_point (suc n) (x ∷ p)) (list_all (is_point (suc n)) E) a) no_nil)
   where
-    at : (b : Bool) → int_eq x h ≡ b → list_all (is_point (suc n)) (under h (rows_at 0 h E)) ≡ true → list_all (is_point (suc n)) (under h (rows_at 0 h ((x ∷ p) ∷ E))) ≡ true
-    at true e r = rw e (and_both (is_point (suc n) (h ∷ p)) (list_all (is_point (suc n)) (under h (rows_at 0 h E)))
+    at : (b : Bool) → int_eq x h ≡ b → list_all (is_point (suc n)) (raised (Some h) (rows_at 0 h E)) ≡ true → list_all (is_point (suc n)) (raised (Some h) (rows_at 0 h ((x ∷ p) ∷ E))) ≡ true
+    at true e r = rw e (and_both (is_point (suc n) (h ∷ p)) (list_all (is_point (suc n)) (raised (Some h) (rows_at 0 h E)))
         (ap (λ z. is_point (suc n) (z ∷ p)) (sym (eq_is x h e)) ∙ and_first (is_point (suc n) (x ∷ p)) (list_all (is_point (suc n)) E) a) r)
     at false e r = rw e r
 
@@ -157,23 +157,23 @@ module _ (op : Bool → Bool → Bool) (z : op false false ≡ false) (n : ℕ) 
   built_more : (l h : ℤ) (R T : List (List ℤ)) → l <ℤ h → R ≡ evm n (couplet n 0 h (combine op (suc n) A B))
       → ((x : ℤ) → l <ℤ x → x <ℤ h → evm n (couplet n 0 x (combine op (suc n) A B)) ≡ [])
       → ((is_point (suc n) [] ≡ true) → ⊥)
-      → Built n (combine op (suc n) A B) h T → Built n (combine op (suc n) A B) l (under h R ++ T)
+      → Built n (combine op (suc n) A B) h T → Built n (combine op (suc n) A B) l (raised (Some h) R ++ T)
   built_more l h R T m r quiet no_nil t =
       let S : List (List ℤ) = combine op (suc n) A B in
       let s : IsCellSet (suc n) S = cell_set-combine op (suc n) A B in
       record {
-        rows = λ x. rows_at-append x (under h R) T ∙ by_order x h
+        rows = λ x. rows_at-append x (raised (Some h) R) T ∙ by_order x h
             (λ k. rw (rows_at-no x h R (eq_no h x (λ e. omega (arith, int_facts))), t.rows x, lt_no h x (omega (arith, int_facts))) (low x k (int_lt l x) refl))
             (λ e. rw (rows_at-yes x h R (eq_yes h x (sym e)), t.rows x, lt_no h x (omega (arith, int_facts)), lt_yes l x (omega (arith, int_facts))) (append-nil R ∙ r ∙ ap (λ y. evm n (couplet n 0 y S)) (sym e)))
             (λ k. rw (rows_at-no x h R (eq_no h x (λ e. omega (arith, int_facts))), t.rows x, lt_yes h x k, lt_yes l x (omega (arith, int_facts))) refl);
-        ascends = rising-append before (under h R) T
+        ascends = rising-append before (raised (Some h) R) T
             (rising_prefixed h R (ap (rising before) r ∙ sym (ascending-rising (evm n (couplet n 0 h S))) ∙ ascending-evm n (couplet n 0 h S)))
             t.ascends
             (all-map (λ p. list_all (before p) T) (λ q. h ∷ q) R
             ∙ all_always (λ q. list_all (before (h ∷ q)) T) (λ q. all_weaker (starts_above h) (before (h ∷ q)) (before-starts h q) T t.above) R);
-        points = all-append (is_point (suc n)) (under h R) T ∙ and_both (list_all (is_point (suc n)) (under h R)) (list_all (is_point (suc n)) T)
-            (ap (λ X. list_all (is_point (suc n)) (under h X)) (r ∙ sym (rows-evm n 0 h S s (omega arith))) ∙ points-under n h (evm (suc n) S) (points-evm (suc n) S) no_nil) t.points;
-        above = all-append (starts_above l) (under h R) T ∙ and_both (list_all (starts_above l) (under h R)) (list_all (starts_above l) T)
+        points = all-append (is_point (suc n)) (raised (Some h) R) T ∙ and_both (list_all (is_point (suc n)) (raised (Some h) R)) (list_all (is_point (suc n)) T)
+            (ap (λ X. list_all (is_point (suc n)) (raised (Some h) X)) (r ∙ sym (rows-evm n 0 h S s (omega arith))) ∙ points-under n h (evm (suc n) S) (points-evm (suc n) S) no_nil) t.points;
+        above = all-append (starts_above l) (raised (Some h) R) T ∙ and_both (list_all (starts_above l) (raised (Some h) R)) (list_all (starts_above l) T)
             (all-map (starts_above l) (λ q. h ∷ q) R ∙ all_always (λ q. int_lt l h) (λ q. lt_yes l h m) R)
             (all_weaker (starts_above h) (starts_above l) (λ q k. starts-weaker l h q m k) T t.above);
       }

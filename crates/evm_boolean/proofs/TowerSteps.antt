@@ -8,10 +8,10 @@ use Rattle.std.proofs.lemmas.Int.{ints}
 use Rattle.evm_cells.specs.Booleans.{xor}
 use Rattle.evm_cells.proofs.Xor.{xor-false}
 use Rattle.evm_cells.proofs.Coords.{eq_no}
-use Rattle.evm_rows.specs.Rows.{xor_rows, flat_of}
+use Rattle.evm_rows.specs.Rows.{xor_rows, flat_of, raised}
 use Rattle.evm_sections.specs.Couplets.{first_height, AreSingle}
 use Rattle.evm_sections.proofs.Heights.{heights}
-use Rattle.evm_boolean.specs.Tower.{under, lower, after, section_at}
+use Rattle.evm_boolean.specs.Tower.{lower, after, section_at}
 use Rattle.evm_sections.specs.Couplets.{mark}
 use Rattle.evm_rows.proofs.BoxTests.{flat_of-append}
 use Rattle.evm_sections.proofs.Zero.{xor_rows-mark}
@@ -31,7 +31,7 @@ cuts_of ((h, c) ∷ la) lb = cuts_into h (cuts_of la) lb
 abbrev pub tower : ℕ → (List (List ℤ) → List (List ℤ) → List (List ℤ)) → List ℤ → List (List ℤ) → List (List ℤ) → List (List ℤ) → List (ℤ × List (List ℤ)) → List (ℤ × List (List ℤ)) → List (List ℤ)
 tower n f [] sa sb below la lb = []
 tower n f (h ∷ hs) sa sb below la lb =
-    under h (xor_rows n below (f (section_at n h sa la) (section_at n h sb lb)))
+    raised (Some h) (xor_rows n below (f (section_at n h sa la) (section_at n h sb lb)))
     ++ tower n f hs (section_at n h sa la) (section_at n h sb lb) (f (section_at n h sa la) (section_at n h sb lb)) (after h la) (after h lb)
 
 not-eq : (j h : ℤ) → int_lt h j ≡ true → int_eq j h ≡ false
@@ -69,11 +69,11 @@ pub tower_more : (n : ℕ) (f : List (List ℤ) → List (List ℤ) → List (Li
     → ma ≡ after h la → mb ≡ after h lb
     → ta ≡ section_at n h sa la → tb ≡ section_at n h sb lb
     → above ≡ f ta tb
-    → grown ≡ out ++ flat_of (under h (xor_rows n below above))
+    → grown ≡ out ++ flat_of (raised (Some h) (xor_rows n below above))
     → out ++ flat_of (tower n f (cuts_of la lb) sa sb below la lb) ≡ all
     → grown ++ flat_of (tower n f (cuts_of ma mb) ta tb above ma mb) ≡ all
 tower_more n f h la lb ma mb sa sb ta tb below above out grown all low a b s t r g so_far =
-    let now : List (List ℤ) = under h (xor_rows n below (f (section_at n h sa la) (section_at n h sb lb))) in
+    let now : List (List ℤ) = raised (Some h) (xor_rows n below (f (section_at n h sa la) (section_at n h sb lb))) in
     let rest : List (List ℤ) = tower n f (cuts_of (after h la) (after h lb)) (section_at n h sa la) (section_at n h sb lb) (f (section_at n h sa la) (section_at n h sb lb)) (after h la) (after h lb) in
     let built : out ++ flat_of (now ++ rest) ≡ all =
     ap (λ hs. out ++ flat_of (tower n f hs sa sb below la lb)) (sym (cuts_of-step la lb h low)) ∙ so_far in

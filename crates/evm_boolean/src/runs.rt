@@ -1,10 +1,10 @@
 // Booleans of views of dimension 1.
-ghost use Rattle.std.specs.Prelude.{◌≡◌, ◌++◌, Bool, IfOk, OnOk};
+ghost use Rattle.std.specs.Prelude.{◌≡◌, ◌++◌, Bool, IfOk, OnOk, Some};
 ghost use Rattle.evm_cells.specs.Booleans.{xor};
-ghost use Rattle.evm_rows.specs.Rows.{flat_of, combined_rows};
+ghost use Rattle.evm_rows.specs.Rows.{flat_of, combined_rows, raised};
 ghost use Rattle.evm_rows.specs.View.{vertices_of};
 ghost use Rattle.evm_sections.specs.Couplets.{AreSingle};
-ghost use Rattle.evm_boolean.specs.Tower.{under, after, section_at, fills};
+ghost use Rattle.evm_boolean.specs.Tower.{after, section_at, fills};
 ghost use Rattle.evm_sections.specs.Couplets.{mark};
 
 use crate::boolean::{Op2, lower_of};
@@ -40,7 +40,7 @@ fn passes(walk: &mut Marks<'_>, height: i32) -> bool
 
 // Appends the height, if `yes`.
 fn append_mark(out: &mut Vec<i32>, height: i32, yes: bool) -> Result<(), AllocError>
-    ensures { OnOk result (out.new.items ≡ out.old.items ++ flat_of (under height (mark yes))) }
+    ensures { OnOk result (out.new.items ≡ out.old.items ++ flat_of (raised (Some height) (mark yes))) }
 {
     if yes {
         out.push(height)?;

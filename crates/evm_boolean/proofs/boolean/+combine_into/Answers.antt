@@ -1,12 +1,12 @@
 use Rattle.std.proofs.Common.{◌≡◌, ◌-◌, ◌<◌, ◌++◌, [], Some, None, refl, sym, ap, ap₂, ◌∙◌, arith, rules, length, w32}
 use mir.Val.{SFits}
 use Rattle.evm_cells.specs.Vertices.{IsVertexList}
-use Rattle.evm_rows.specs.Rows.{Vertices, rows_of, flat_of, xor_rows, combined_rows}
+use Rattle.evm_rows.specs.Rows.{Vertices, rows_of, flat_of, xor_rows, combined_rows, raised}
 use Rattle.evm_rows.specs.View.{vertices_of}
 use Rattle.evm_rows.proofs.RowsLaws.{rows_of-none}
 use Rattle.evm_sections.specs.Couplets.{first_height}
 use Rattle.evm_sections.proofs.Bits.{same32}
-use Rattle.evm_boolean.specs.Tower.{lower, after, under, fills}
+use Rattle.evm_boolean.specs.Tower.{lower, after, fills}
 use Rattle.evm_boolean.proofs.Cuts.{cuts-fall}
 use Rattle.evm_boolean.proofs.TowerCells.{tower_is_at, fills-none}
 use Rattle.evm_boolean.proofs.TowerSteps.{tower_more, tower_done}
@@ -47,11 +47,11 @@ loop-height-preserved t c =
           let above : c.in_ok-above.above.rows ≡ combined_rows (fills c.args.op) (c.dim-dim.result - 1) c.in_ok-next_a.next_a.rows c.in_ok-next_b.next_b.rows =
           rw (dim_a, rows_a, rows_b) at c.in_ok-above.ensures.rows in
           let dim_below : c.loop-height.below.dim ≡ c.dim-dim.result - 1 = omega (arith, inv.below_dim) in
-          let grown : c.in_ok-out.out.items ≡ c.loop-height.out.items ++ flat_of (under c.in-Some.height (xor_rows (c.dim-dim.result - 1) c.loop-height.below.rows c.in_ok-above.above.rows)) =
+          let grown : c.in_ok-out.out.items ≡ c.loop-height.out.items ++ flat_of (raised (Some c.in-Some.height) (xor_rows (c.dim-dim.result - 1) c.loop-height.below.rows c.in_ok-above.above.rows)) =
           (rw (same32 c.in-Some.height fits) at c.in_ok-out.ensures)
-          ∙ ap (λ (p : Vertices). c.loop-height.out.items ++ flat_of (under c.in-Some.height (xor_rows p.dim p.rows (vertices_of c.rows-in-Some-3.result).rows))) c.rows-in-Some-2.ensures
-          ∙ ap (λ (p : Vertices). c.loop-height.out.items ++ flat_of (under c.in-Some.height (xor_rows c.loop-height.below.dim c.loop-height.below.rows p.rows))) c.rows-in-Some-3.ensures
-          ∙ ap (λ m. c.loop-height.out.items ++ flat_of (under c.in-Some.height (xor_rows m c.loop-height.below.rows c.in_ok-above.above.rows))) dim_below in
+          ∙ ap (λ (p : Vertices). c.loop-height.out.items ++ flat_of (raised (Some c.in-Some.height) (xor_rows p.dim p.rows (vertices_of c.rows-in-Some-3.result).rows))) c.rows-in-Some-2.ensures
+          ∙ ap (λ (p : Vertices). c.loop-height.out.items ++ flat_of (raised (Some c.in-Some.height) (xor_rows c.loop-height.below.dim c.loop-height.below.rows p.rows))) c.rows-in-Some-3.ensures
+          ∙ ap (λ m. c.loop-height.out.items ++ flat_of (raised (Some c.in-Some.height) (xor_rows m c.loop-height.below.rows c.in_ok-above.above.rows))) dim_below in
           tower_more (c.dim-dim.result - 1) (combined_rows (fills c.args.op) (c.dim-dim.result - 1)) c.in-Some.height _ _ _ _ _ _ _ _ _ _ _ _ _ low left right
           (rw (same32 c.in-Some.height fits, n_a) at c.in_ok-next_a.ensures.rows) (rw (same32 c.in-Some.height fits, n_b) at c.in_ok-next_b.ensures.rows)
           above grown inv.so_far;

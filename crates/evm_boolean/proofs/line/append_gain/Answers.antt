@@ -3,10 +3,10 @@ use Rattle.std.specs.Prelude.{unwrap_or}
 use mir.Val.{SFits}
 use Rattle.evm_cells.specs.Vertices.{IsVertexList}
 use Rattle.evm_cells.proofs.Order.{rising}
-use Rattle.evm_rows.specs.Rows.{rows_of, flat_of}
+use Rattle.evm_rows.specs.Rows.{rows_of, flat_of, raised}
 use Rattle.evm_sections.proofs.Bits.{same32}
 use Rattle.evm_sections.proofs.Zero.{differs}
-use Rattle.evm_boolean.specs.Tower.{lower, fills, under}
+use Rattle.evm_boolean.specs.Tower.{lower, fills}
 use Rattle.evm_sections.specs.Lines.{firsts, head_of, least, ones, if_any}
 use Rattle.evm_sections.proofs.Lines.{rising-firsts}
 use Rattle.evm_sections.proofs.LineSteps.{numbers-rise, firsts-numbers, left-past}
@@ -74,7 +74,7 @@ loop-next-preserved c =
     (rw (same32 c.least-at.result fits_at) at c.pass-in-Some-2.ensures) (rw (same32 c.least-at.result fits_at) at c.pass-in-Some-3.ensures)
     (rw (c.on.ensures, c.on-in-Some.ensures, c.on-in-Some-2.ensures, c.on-in-Some-3.ensures) at c.gain-after.ensures)
     ((rw (same32 c.least-at.result fits_at) at c.in_ok-append_point.ensures)
-    ∙ ap (λ t. c.loop-next.out.items ++ flat_of (under (to_z w32 (of_z w32 c.args.height)) (ones (if_any t c.least-at.result)))) (differs c.loop-next.on c.gain-after.result))
+    ∙ ap (λ t. c.loop-next.out.items ++ flat_of (raised (Some (to_z w32 (of_z w32 c.args.height))) (ones (if_any t c.least-at.result)))) (differs c.loop-next.on c.gain-after.result))
     c.loop-next.invariant
 
 pub returns : goal.returns

@@ -1,11 +1,11 @@
 use Rattle.std.proofs.Common.{◌≡◌, ℤ, ◌++◌, List, Some, None, refl, sym, ap, ap₂, ◌∙◌, arith, rules, length, w32}
 use mir.Val.{SFits}
 use Rattle.evm_cells.specs.Vertices.{IsVertexList}
-use Rattle.evm_rows.specs.Rows.{rows_of, flat_of, xor_rows, combined_rows}
+use Rattle.evm_rows.specs.Rows.{rows_of, flat_of, xor_rows, combined_rows, raised}
 use Rattle.evm_rows.specs.View.{vertices_of}
 use Rattle.evm_sections.specs.Couplets.{first_height}
 use Rattle.evm_sections.proofs.Bits.{same32}
-use Rattle.evm_boolean.specs.Tower.{lower, after, section_at, couplet_here, under, fills}
+use Rattle.evm_boolean.specs.Tower.{lower, after, section_at, couplet_here, fills}
 use Rattle.evm_boolean.proofs.Cuts.{cuts-fall}
 use Rattle.evm_boolean.proofs.TowerCells.{tower_is_at, fills-none, op-both_none, section-here}
 use Rattle.evm_boolean.proofs.TowerSteps.{tower_more, tower_done}
@@ -53,10 +53,10 @@ loop-height-preserved c =
     c.in_ok-next_a.ensures.rows ∙ ap (xor_rows 1 sa) ca ∙ section-here 1 c.in-Some.height sa c.loop-height.left.left inv.a_is.vertices in
     let tb : rows_of c.in_ok-next_b.next_b.items 1 0 ≡ section_at 1 c.in-Some.height sb c.loop-height.right.left =
     c.in_ok-next_b.ensures.rows ∙ ap (xor_rows 1 sb) cb ∙ section-here 1 c.in-Some.height sb c.loop-height.right.left inv.b_is.vertices in
-    let grown : c.append_gain.new.out.items ≡ c.loop-height.out.items ++ flat_of (under c.in-Some.height (xor_rows 1 (combined_rows (fills c.args.op) 1 sa sb)
+    let grown : c.append_gain.new.out.items ≡ c.loop-height.out.items ++ flat_of (raised (Some c.in-Some.height) (xor_rows 1 (combined_rows (fills c.args.op) 1 sa sb)
     (combined_rows (fills c.args.op) 1 (rows_of c.in_ok-next_a.next_a.items 1 0) (rows_of c.in_ok-next_b.next_b.items 1 0)))) =
     (rw (same32 c.in-Some.height fits, c.deref.ensures.value, c.deref-in-Some.ensures.value) at c.in_ok-append_gain.ensures)
-    ∙ ap₂ (λ X Y. c.loop-height.out.items ++ flat_of (under c.in-Some.height (xor_rows 1 (combined_rows (fills c.args.op) 1 sa sb) (combined_rows (fills c.args.op) 1 X Y))))
+    ∙ ap₂ (λ X Y. c.loop-height.out.items ++ flat_of (raised (Some c.in-Some.height) (xor_rows 1 (combined_rows (fills c.args.op) 1 sa sb) (combined_rows (fills c.args.op) 1 X Y))))
     (sym c.in_ok-next_a.ensures.rows) (sym c.in_ok-next_b.ensures.rows) in
     record {
       left_dim = c.couplet_at-change_a.ensures.walk_dim;

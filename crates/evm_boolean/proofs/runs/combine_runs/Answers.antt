@@ -1,10 +1,10 @@
 use Rattle.std.proofs.Common.{◌≡◌, ◌++◌, Some, None, refl, sym, ap, ◌∙◌, arith, rules, w32}
 use mir.Val.{SFits}
 use Rattle.evm_cells.specs.Vertices.{IsVertexList}
-use Rattle.evm_rows.specs.Rows.{rows_of, flat_of, xor_rows, combined_rows}
+use Rattle.evm_rows.specs.Rows.{rows_of, flat_of, xor_rows, combined_rows, raised}
 use Rattle.evm_sections.specs.Couplets.{first_height}
 use Rattle.evm_sections.proofs.Bits.{same32}
-use Rattle.evm_boolean.specs.Tower.{under, lower, after, section_at, fills}
+use Rattle.evm_boolean.specs.Tower.{lower, after, section_at, fills}
 use Rattle.evm_sections.specs.Couplets.{mark}
 use Rattle.evm_sections.proofs.Zero.{xor_rows-mark, combined_rows-mark}
 use Rattle.evm_boolean.proofs.TowerCells.{tower_is_at, fills-none}
@@ -40,9 +40,9 @@ loop-height-preserved c =
     ap mark c.flip-on_b.ensures ∙ sym (rw (same32 c.in-Some.height fits) at (c.passes-at_b.ensures.flips c.loop-height.on_b)) in
     let above : mark c.fills-above.result ≡ combined_rows (fills c.args.op) 0 (mark c.flip-on_a.result) (mark c.flip-on_b.result) =
     ap mark c.fills-above.ensures ∙ sym (combined_rows-mark (fills c.args.op) c.flip-on_a.result c.flip-on_b.result) in
-    let grown : c.append_mark.new.out.items ≡ c.loop-height.out.items ++ flat_of (under c.in-Some.height (xor_rows 0 (mark c.loop-height.below) (mark c.fills-above.result))) =
+    let grown : c.append_mark.new.out.items ≡ c.loop-height.out.items ++ flat_of (raised (Some c.in-Some.height) (xor_rows 0 (mark c.loop-height.below) (mark c.fills-above.result))) =
     (rw (same32 c.in-Some.height fits) at c.in_ok-append_mark.ensures)
-    ∙ ap (λ rs. c.loop-height.out.items ++ flat_of (under c.in-Some.height rs)) (ap mark c.flip-change.ensures ∙ sym (xor_rows-mark c.loop-height.below c.fills-above.result)) in
+    ∙ ap (λ rs. c.loop-height.out.items ++ flat_of (raised (Some c.in-Some.height) rs)) (ap mark c.flip-change.ensures ∙ sym (xor_rows-mark c.loop-height.below c.fills-above.result)) in
     record {
       left_single = c.passes-at_a.ensures.single;
       right_single = c.passes-at_b.ensures.single;
