@@ -14,7 +14,9 @@ use Rattle.evm_cells.proofs.Xor.{and_first, and_second, and_both}
 use Rattle.evm_cells.proofs.Universe.{point_parts}
 use Rattle.evm_cells.proofs.Combine.{xor_vertices, cell_set-combine}
 use Rattle.evm_cells.proofs.Core.{vertices-evm}
-use Rattle.evm_rows.specs.Rows.{flat_of, row_cmp, ascends, has_row, differ, merge_xor, AreRows, combined_rows, xor_rows}
+use Rattle.evm_rows.specs.Rows.{rows_of, flat_of, row_cmp, ascends, has_row, differ, merge_xor, AreRows, combined_rows, xor_rows}
+use Rattle.evm_rows.specs.View.{vertices_of, merge_of, xor_of}
+use Rattle.evm_rows.specs.declared.solid.Rows.{Rows}
 use Rattle.evm_rows.proofs.RowsOrder.{AllAbove, ascends-parts, merge_xor-ascends, Wide, rows_of-flat_of, length-flat_of}
 use Rattle.evm_rows.proofs.RowsMembers.{has_row-merge_xor}
 
@@ -90,6 +92,13 @@ merge_is n V W v w =
     let b : ascends W ≡ true = ascends_from W w.ascends in
     xor_vertices n V W (merge_xor V W) v w (ascending_from (merge_xor V W) (merge_xor-ascends V W a b))
     (λ p. sym (has-row p (merge_xor V W)) ∙ has_row-merge_xor p V W a b ∙ differ-xor (has_row p V) (has_row p W) ∙ ap₂ xor (has-row p V) (has-row p W))
+
+-- the merge of two views' rows
+pub merge_of_is : (a b : Rows) → (vertices_of a).dim ≡ (vertices_of b).dim → merge_of a b ≡ xor_of a b
+merge_of_is a b same =
+    let n = a.width - a.skip in
+    let w : IsVertexList n (rows_of b.flat.now b.width b.skip) = rw same b.vertices in
+    merge_is n (rows_of a.flat.now a.width a.skip) (rows_of b.flat.now b.width b.skip) a.vertices w
 
 pub vertices-op : (op : Bool → Bool → Bool) (n : ℕ) (V W : List (List ℤ)) → IsVertexList n (combined_rows op n V W)
 unfolding combined_rows

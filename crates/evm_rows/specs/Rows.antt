@@ -1,5 +1,5 @@
 -- Rows of whole numbers in a flat list, and their exclusive or
-use Rattle.std.specs.Prelude.{◌≡◌, ℕ, ◌-◌, ◌%◌, ◌<◌, ◌≤◌, suc, zero, Bool, true, ◌&&◌, ℤ, List, [], ◌∷◌, ◌++◌, length, take, drop, ◌||◌, not, false}
+use Rattle.std.specs.Prelude.{◌≡◌, ℕ, ◌-◌, ◌%◌, ◌<◌, ◌≤◌, suc, zero, Bool, true, ◌&&◌, ℤ, Option, Some, None, List, [], ◌∷◌, ◌++◌, map, length, take, drop, ◌||◌, not, false}
 use Rattle.std.specs.declared.cmp.Ordering.{Ordering}
 use Rattle.std.specs.declared.cmp.Ordering.TheVariants.{Less, Equal, Greater}
 use Rattle.std.specs.Ordering.{int_cmp, is_lt, is_eq}
@@ -21,6 +21,11 @@ rows_of flat width skip = rows_after width skip 0 flat
 abbrev pub flat_of : List (List ℤ) → List ℤ
 flat_of [] = []
 flat_of (r ∷ rs) = r ++ flat_of rs
+
+-- the rows of a couplet at a height, with the height before each; the rows as they are where there is none
+abbrev pub raised : Option ℤ → List (List ℤ) → List (List ℤ)
+raised None rs = rs
+raised (Some h) rs = map (λ r. h ∷ r) rs
 
 -- the order of rows
 abbrev pub row_cmp : List ℤ → List ℤ → Ordering

@@ -8,7 +8,7 @@ mod solid;
 
 pub use boxes::BoxError;
 pub use check::RowError;
-pub use merge::{append_rows, own, split_row, xor, xor_into};
+pub use merge::{append_rows, append_xor, own, split_row, xor, xor_into};
 pub use solid::{DIM_MAX, NoMemory, Rows, Solid, limit};
 
 #[cfg(test)]

@@ -3,8 +3,8 @@ ghost use Rattle.std.specs.Prelude.{◌≡◌, ℕ, ◌+◌, ◌-◌, ◌%◌, �
 ghost use Rattle.evm_cells.specs.Places.{has};
 ghost use Rattle.evm_cells.specs.Booleans.{xor, xor_cells};
 ghost use Rattle.evm_cells.specs.Vertices.{cells};
-ghost use Rattle.evm_rows.specs.Rows.{rows_of, flat_of, merge_xor, xor_rows};
-ghost use Rattle.evm_rows.specs.View.{vertices_of};
+ghost use Rattle.evm_rows.specs.Rows.{rows_of, flat_of, row_cmp, raised, xor_rows};
+ghost use Rattle.evm_rows.specs.View.{vertices_of, merge_of, xor_of};
 
 use crate::solid::{NoMemory, Rows, Solid};
 use std::alloc::{AllocError, Global};
@@ -34,9 +34,54 @@ pub fn split_row(flat: &[i32], width: usize, skip: usize) -> (&[i32], &[i32])
 /// Appends the rows of flat numbers to `out`: each run of `width` numbers without its first `skip`.
 ///
 /// Where nothing is left out of a row they are copied as one. Takes memory only where `out` has no room left. After want
-/// of memory `out` may have some of the rows.
+/// of memory `out` is gone.
 pub fn append_rows(
+    out: Vec<i32>,
+    flat: &[i32],
+    width: usize,
+    skip: usize,
+) -> Result<Vec<i32>, NoMemory>
+    requires left { skip < width }
+    requires narrow { width ≤ 6 }
+    requires whole { length flat.now % width ≡ 0 }
+    ensures { IfOk result (λ v. v.items ≡ out.items ++ flat_of (rows_of flat.now width skip)) }
+{
+    let mut grown = out;
+    extend_by_rows(&mut grown, None, flat, width, skip)?;
+    Ok(grown)
+}
+
+// The order of two rows of one length.
+#[inline(always)]
+fn row_order(x: &[i32], y: &[i32]) -> Ordering
+    requires { length x.now ≡ length y.now }
+    ensures { result ≡ row_cmp x.now y.now }
+{
+    for i in 0..x.len() {
+        if x[i] != y[i] {
+            return x[i].cmp(&y[i]);
+        }
+    }
+    Ordering::Equal
+}
+
+// Appends a row, with the height before it if there is one.
+#[inline(always)]
+fn extend_by_row(out: &mut Vec<i32>, height: Option<i32>, row: &[i32]) -> Result<(), AllocError>
+    ensures { OnOk result (out.new.items ≡ out.old.items ++ flat_of (raised height (row.now ∷ []))) }
+{
+    if let Some(h) = height {
+        out.push(h)?;
+    }
+    out.extend_from_slice(row)?;
+    Ok(())
+}
+
+// Appends each row of flat numbers, with the height before it if there is one.
+#[inline(always)]
+fn extend_by_rows(
     out: &mut Vec<i32>,
+    height: Option<i32>,
     flat: &[i32],
     width: usize,
     skip: usize,
@@ -44,34 +89,40 @@ pub fn append_rows(
     requires left { skip < width }
     requires narrow { width ≤ 6 }
     requires whole { length flat.now % width ≡ 0 }
-    ensures { OnOk result (out.new.items ≡ out.old.items ++ flat_of (rows_of flat.now width skip)) }
+    ensures { OnOk result (out.new.items ≡ out.old.items ++ flat_of (raised height (rows_of flat.now width skip))) }
 {
-    if skip == 0 {
+    if skip == 0 && height.is_none() {
         out.extend_from_slice(flat)?;
         return Ok(());
     }
     let mut left = flat;
     while left.len() != 0 {
         let (row, rest) = split_row(left, width, skip);
-        out.extend_from_slice(row)?;
+        extend_by_row(out, height, row)?;
         left = rest;
     }
     Ok(())
 }
 
-// The numbers of the exclusive or, in the room of an empty list.
-fn merged(mut out: Vec<i32>, a: Rows<'_>, b: Rows<'_>) -> Result<Vec<i32>, AllocError>
-    requires { out.items ≡ [] }
-    ensures { IfOk result (λ v. v.items ≡ flat_of (merge_xor (vertices_of a.entry).rows (vertices_of b.entry).rows)) }
+// Appends the rows that just one of two views has, each with the height before it if there is one.
+#[inline(always)]
+fn extend_by_merge(
+    out: &mut Vec<i32>,
+    height: Option<i32>,
+    a: Rows<'_>,
+    b: Rows<'_>,
+) -> Result<(), AllocError>
+    requires { (vertices_of a).dim ≡ (vertices_of b).dim }
+    ensures { OnOk result (out.new.items ≡ out.old.items ++ flat_of (raised height (merge_of a.entry b.entry))) }
 {
     let mut left = a.flat;
     let mut right = b.flat;
     while left.len() != 0 && right.len() != 0 {
         let (x, after_x) = split_row(left, a.width, a.skip);
         let (y, after_y) = split_row(right, b.width, b.skip);
-        match x.cmp(y) {
+        match row_order(x, y) {
             Ordering::Less => {
-                out.extend_from_slice(x)?;
+                extend_by_row(out, height, x)?;
                 left = after_x;
             }
             Ordering::Equal => {
@@ -79,14 +130,69 @@ fn merged(mut out: Vec<i32>, a: Rows<'_>, b: Rows<'_>) -> Result<Vec<i32>, Alloc
                 right = after_y;
             }
             Ordering::Greater => {
-                out.extend_from_slice(y)?;
+                extend_by_row(out, height, y)?;
                 right = after_y;
             }
         }
     }
-    append_rows(&mut out, left, a.width, a.skip)?;
-    append_rows(&mut out, right, b.width, b.skip)?;
-    Ok(out)
+    extend_by_rows(out, height, left, a.width, a.skip)?;
+    extend_by_rows(out, height, right, b.width, b.skip)?;
+    Ok(())
+}
+
+// The same view. Where the compiler knows `dim`, it knows from here on how long a row is.
+#[inline(always)]
+fn of_dim<'a>(dim: usize, a: Rows<'a>) -> Rows<'a>
+    requires { (vertices_of a).dim ≡ dim }
+    ensures { vertices_of result ≡ vertices_of a.entry }
+{
+    Rows {
+        flat: a.flat,
+        width: dim + a.skip,
+        skip: a.skip,
+    }
+}
+
+// As `extend_by_merge`, compiled apart for each dimension from 2 to 5: there a row is compared and copied with no call.
+#[inline(always)]
+fn extend_by_xor(
+    out: &mut Vec<i32>,
+    height: Option<i32>,
+    a: Rows<'_>,
+    b: Rows<'_>,
+) -> Result<(), AllocError>
+    requires { (vertices_of a).dim ≡ (vertices_of b).dim }
+    ensures { OnOk result (out.new.items ≡ out.old.items ++ flat_of (raised height (merge_of a.entry b.entry))) }
+{
+    match a.dim() {
+        2 => extend_by_merge(out, height, of_dim(2, a), of_dim(2, b)),
+        3 => extend_by_merge(out, height, of_dim(3, a), of_dim(3, b)),
+        4 => extend_by_merge(out, height, of_dim(4, a), of_dim(4, b)),
+        5 => extend_by_merge(out, height, of_dim(5, a), of_dim(5, b)),
+        _ => extend_by_merge(out, height, a, b),
+    }
+}
+
+/// Appends the rows of the exclusive or of two solids of one dimension to `out`, each with the height before it if there
+/// is one. They are those that just one of the two lists has, by one merge.
+///
+/// Takes memory only where `out` has no room left. After want of memory `out` is gone.
+pub fn append_xor(
+    out: Vec<i32>,
+    height: Option<i32>,
+    a: Rows<'_>,
+    b: Rows<'_>,
+) -> Result<Vec<i32>, NoMemory>
+    requires { (vertices_of a).dim ≡ (vertices_of b).dim }
+    ensures { IfOk result (λ v. v.items ≡ out.items ++ flat_of (raised height (xor_of a.entry b.entry))) }
+{
+    let mut grown = out;
+    // The merge is compiled apart for a height and for none, so that no row asks which it is.
+    match height {
+        None => extend_by_xor(&mut grown, None, a, b)?,
+        Some(h) => extend_by_xor(&mut grown, Some(h), a, b)?,
+    }
+    Ok(grown)
 }
 
 /// The exclusive or of two solids of one dimension: the cells that just one of them has. Its rows are those that just
@@ -100,11 +206,8 @@ pub fn xor(alloc: Global, a: Rows<'_>, b: Rows<'_>) -> Result<Solid, NoMemory>
     ensures cells { IfOk result (λ s. cells s.dim s.rows ≡ xor_cells (vertices_of a.entry).dim (cells (vertices_of a.entry).dim (vertices_of a.entry).rows) (cells (vertices_of a.entry).dim (vertices_of b.entry).rows)) }
     ensures members { IfOk result (λ s. (p : List ℤ) → has s.rows p ≡ xor (has (vertices_of a.entry).rows p) (has (vertices_of b.entry).rows p)) }
 {
-    let dim = a.dim();
-    let room = a.flat.len().saturating_add(b.flat.len());
-    let out = Vec::with_capacity(alloc, room)?;
-    let flat = merged(out, a, b)?;
-    Ok(Solid::from_rows(dim, flat))
+    let room = Solid::empty(alloc, a.dim());
+    xor_into(room, a, b)
 }
 
 /// The exclusive or of two solids of one dimension, as `xor`, in the room of a solid that is done with. What `old` was
@@ -118,13 +221,11 @@ pub fn xor_into(old: Solid, a: Rows<'_>, b: Rows<'_>) -> Result<Solid, NoMemory>
     ensures cells { IfOk result (λ s. cells s.dim s.rows ≡ xor_cells (vertices_of a.entry).dim (cells (vertices_of a.entry).dim (vertices_of a.entry).rows) (cells (vertices_of a.entry).dim (vertices_of b.entry).rows)) }
     ensures members { IfOk result (λ s. (p : List ℤ) → has s.rows p ≡ xor (has (vertices_of a.entry).rows p) (has (vertices_of b.entry).rows p)) }
 {
-    let dim = a.dim();
     let mut out = old.into_flat();
     out.clear();
-    let room = a.flat.len().saturating_add(b.flat.len());
-    out.reserve(room)?;
-    let flat = merged(out, a, b)?;
-    Ok(Solid::from_rows(dim, flat))
+    out.reserve(a.flat.len().saturating_add(b.flat.len()))?;
+    let flat = append_xor(out, None, a, b)?;
+    Ok(Solid::from_rows(a.dim(), flat))
 }
 
 /// A solid that owns a copy of the rows of a view. Takes memory for them once.
@@ -133,7 +234,7 @@ pub fn own(alloc: Global, a: Rows<'_>) -> Result<Solid, NoMemory>
     ensures rows { IfOk result (λ s. s.rows ≡ (vertices_of a.entry).rows) }
 {
     let dim = a.dim();
-    let mut flat = Vec::with_capacity(alloc, a.len() * dim)?;
-    append_rows(&mut flat, a.flat, a.width, a.skip)?;
+    let room = Vec::with_capacity(alloc, a.len() * dim)?;
+    let flat = append_rows(room, a.flat, a.width, a.skip)?;
     Ok(Solid::from_rows(dim, flat))
 }

@@ -1,4 +1,4 @@
-use crate::{BoxError, RowError, Solid, own, xor, xor_into};
+use crate::{BoxError, RowError, Solid, append_xor, own, xor, xor_into};
 use std::alloc::Global;
 
 // The refusal of numbers as rows of dimension `dim`; a table's slip stands out as want of memory.
@@ -117,4 +117,14 @@ fn combines_squares(rt: HostRuntime) {
     assert!(rt; back.same(&a));
     let owned = own(rt.alloc(), back.rows()).expect(&rt, "memory");
     assert!(rt; owned.same(&a));
+}
+
+#[test]
+fn raises_a_couplet(rt: HostRuntime) {
+    let below = Solid::of_box(rt.alloc(), &[0], &[2]).expect(&rt, "memory");
+    let above = Solid::of_box(rt.alloc(), &[1], &[2]).expect(&rt, "memory");
+    let out = Vec::new(rt.alloc());
+    let first = append_xor(out, Some(5), below.rows(), above.rows()).expect(&rt, "memory");
+    let both = append_xor(first, Some(7), above.rows(), below.rows()).expect(&rt, "memory");
+    assert_eq!(rt; both.as_slice(), [5, 0, 5, 1, 7, 0, 7, 1].as_slice());
 }

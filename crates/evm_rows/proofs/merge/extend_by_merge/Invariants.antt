@@ -1,0 +1,15 @@
+use Rattle.std.proofs.Common.{◌≡◌, ◌%◌, ◌+◌, ◌++◌, length}
+use Rattle.evm_rows.specs.Rows.{rows_of, flat_of, merge_xor, raised}
+use Rattle.evm_rows.specs.View.{merge_of}
+use Rattle.evm_rows.proofs.merge.extend_by_merge.Given as goal
+
+abbrev pub invariant-loop-left : goal.invariant-loop-left
+invariant-loop-left l = record {
+  left_whole : length l.left % l.a.width ≡ 0;
+  right_whole : length l.right % l.b.width ≡ 0;
+  so_far : l.out.items ++ flat_of (raised l.height (merge_xor (rows_of l.left l.a.width l.a.skip) (rows_of l.right l.b.width l.b.skip)))
+      ≡ l.initial.out.items ++ flat_of (raised l.height (merge_of l.a l.b));
+}
+
+abbrev pub decreases-loop-left : goal.decreases-loop-left
+decreases-loop-left l = length l.left + length l.right
