@@ -13,7 +13,7 @@ use Rattle.evm_sections.specs.Couplets.{first_height, AreSingle}
 use Rattle.evm_sections.proofs.Heights.{heights}
 use Rattle.evm_boolean.specs.Tower.{under, lower, after, section_at}
 use Rattle.evm_sections.specs.Couplets.{mark}
-use Rattle.evm_boolean.proofs.TowerLaws.{flat_of-append}
+use Rattle.evm_rows.proofs.BoxTests.{flat_of-append}
 use Rattle.evm_sections.proofs.Zero.{xor_rows-mark}
 
 -- the height h and those that `rest` gives, merged with the heights of couplets

@@ -1,9 +1,9 @@
 -- Rows that are built from couplets, from the lowest up
-use Rattle.std.specs.Prelude.{ℕ, Bool, not, ◌&&◌, ◌||◌, int_lt, ℤ, Option, Some, None, List, [], ◌∷◌, map, if◌then◌else◌}
+use Rattle.std.specs.Prelude.{ℕ, Bool, not, ◌&&◌, ◌||◌, int_lt, ℤ, Option, Some, None, List, [], ◌∷◌, if◌then◌else◌}
 use Rattle.std.specs.Ordering.{int_eq}
 use Rattle.evm_cells.specs.Booleans.{or_cells, and_cells, sub_cells, xor}
 use Rattle.evm_cells.specs.Vertices.{evm, cells}
-use Rattle.evm_rows.specs.Rows.{Vertices, xor_rows}
+use Rattle.evm_rows.specs.Rows.{Vertices, raised, xor_rows}
 use Rattle.evm_boolean.specs.declared.boolean.Op2.{Op2}
 use Rattle.evm_boolean.specs.declared.boolean.Op2.TheVariants.{Or, And, Sub, Xor}
 
@@ -30,7 +30,7 @@ gain op a b c d = xor (op a b) (op (xor a c) (xor b d))
 
 -- the rows of a couplet, with its height before each
 abbrev pub under : ℤ → List (List ℤ) → List (List ℤ)
-under h rs = map (λ r. h ∷ r) rs
+under h rs = raised (Some h) rs
 
 -- the lower of two heights
 abbrev pub lower : Option ℤ → Option ℤ → Option ℤ

@@ -7,10 +7,9 @@ ghost use Rattle.evm_rows.specs.Rows.{combined_rows};
 ghost use Rattle.evm_rows.specs.View.{vertices_of};
 ghost use Rattle.evm_boolean.specs.Tower.{lower, after, section_at, fills, or_vertices, and_vertices, sub_vertices};
 
-use crate::merge::{append_couplet, section_after};
 use crate::plane::combine_planes;
 use crate::runs::combine_runs;
-use evm_rows::{NoMemory, Rows, Solid, append_rows};
+use evm_rows::{NoMemory, Rows, Solid, append_rows, append_xor, xor_into};
 use evm_sections::Walk;
 use std::alloc::Global;
 
@@ -73,7 +72,7 @@ fn advance(
     match walk.next_couplet() {
         None => Ok((section, spare)),
         Some((_, couplet)) => {
-            let next = section_after(spare, section.rows(), couplet)?;
+            let next = xor_into(spare, section.rows(), couplet)?;
             Ok((next, section))
         }
     }
@@ -84,13 +83,13 @@ fn own_into(room: Solid, a: Rows<'_>) -> Result<Solid, NoMemory>
     ensures dim { IfOk result (λ s. s.dim ≡ (vertices_of a.entry).dim) }
     ensures rows { IfOk result (λ s. s.rows ≡ (vertices_of a.entry).rows) }
 {
-    let mut flat = room.into_flat();
-    flat.clear();
-    append_rows(&mut flat, a.flat, a.width, a.skip)?;
+    let mut out = room.into_flat();
+    out.clear();
+    let flat = append_rows(out, a.flat, a.width, a.skip)?;
     Ok(Solid::from_rows(a.dim(), flat))
 }
 
-// No rows, in the room of a solid that is done with.
+/// No rows, in the room of a solid that is done with. Takes no memory.
 pub fn emptied(room: Solid, dim: usize) -> Solid
     requires low { 0 < dim }
     requires high { dim ≤ 6 }
@@ -102,7 +101,7 @@ pub fn emptied(room: Solid, dim: usize) -> Solid
     Solid::from_rows(dim, flat)
 }
 
-// A solid without rows, in a room that is done with where there is one.
+/// A solid without rows, in one of the rooms that are done with where there is one. Takes no memory.
 pub fn taken(alloc: Global, rooms: &mut Vec<Solid>, dim: usize) -> Solid
     requires low { 0 < dim }
     requires high { dim ≤ 6 }
@@ -213,7 +212,7 @@ fn combine_into(
         let (next_b, old_b) = advance(&mut right, height, below_b, old_a)?;
         below_b = next_b;
         let above = combine_into(alloc, op, below_a.rows(), below_b.rows(), other, rooms)?;
-        append_couplet(&mut out, height, below.rows(), above.rows())?;
+        out = append_xor(out, Some(height), below.rows(), above.rows())?;
         spare = old_b;
         other = below;
         below = above;

@@ -6,10 +6,10 @@ ghost use Rattle.evm_rows.specs.View.{vertices_of};
 ghost use Rattle.evm_boolean.specs.Tower.{after, couplet_here, fills};
 
 use crate::boolean::{Op2, lower_of, taken};
-use crate::line::{append_gain, changed};
+use crate::line::append_gain;
 use evm_rows::{NoMemory, Rows, Solid};
-use evm_sections::Walk;
-use std::alloc::{AllocError, Global};
+use evm_sections::{Walk, changed};
+use std::alloc::Global;
 
 // A view of dimension 1 without rows, as wide as the couplets of a view of dimension 2, and lasting as long.
 #[inline(always)]
@@ -51,7 +51,7 @@ fn line_after(
     line: Vec<i32>,
     spare: Vec<i32>,
     change: Rows<'_>,
-) -> Result<(Vec<i32>, Vec<i32>), AllocError>
+) -> Result<(Vec<i32>, Vec<i32>), NoMemory>
     requires line { AreRows line.items 1 0 }
     requires change { (vertices_of change).dim ≡ 1 }
     ensures are_rows { IfOk result (λ p. AreRows p.0.items 1 0) }
@@ -61,7 +61,7 @@ fn line_after(
         return Ok((line, spare));
     }
     let next = changed(spare, &line, change)?;
-    Ok((next, line))
+    Ok((next.line, line))
 }
 
 // A line without ends, in a room that is done with where there is one.

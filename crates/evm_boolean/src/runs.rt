@@ -1,16 +1,16 @@
 // Booleans of views of dimension 1.
-ghost use Rattle.std.specs.Prelude.{◌≡◌, Bool, IfOk};
+ghost use Rattle.std.specs.Prelude.{◌≡◌, ◌++◌, Bool, IfOk, OnOk};
 ghost use Rattle.evm_cells.specs.Booleans.{xor};
-ghost use Rattle.evm_rows.specs.Rows.{combined_rows};
+ghost use Rattle.evm_rows.specs.Rows.{flat_of, combined_rows};
 ghost use Rattle.evm_rows.specs.View.{vertices_of};
 ghost use Rattle.evm_sections.specs.Couplets.{AreSingle};
-ghost use Rattle.evm_boolean.specs.Tower.{after, section_at, fills};
+ghost use Rattle.evm_boolean.specs.Tower.{under, after, section_at, fills};
 ghost use Rattle.evm_sections.specs.Couplets.{mark};
 
 use crate::boolean::{Op2, lower_of};
-use crate::tower::append_mark;
 use evm_rows::{NoMemory, Rows, Solid};
 use evm_sections::marks::Marks;
+use std::alloc::AllocError;
 
 // The other value, if `yes`.
 fn flip(on: bool, yes: bool) -> bool
@@ -36,6 +36,16 @@ fn passes(walk: &mut Marks<'_>, height: i32) -> bool
             true
         }
     }
+}
+
+// Appends the height, if `yes`.
+fn append_mark(out: &mut Vec<i32>, height: i32, yes: bool) -> Result<(), AllocError>
+    ensures { OnOk result (out.new.items ≡ out.old.items ++ flat_of (under height (mark yes))) }
+{
+    if yes {
+        out.push(height)?;
+    }
+    Ok(())
 }
 
 /// The Boolean of two views of dimension 1.

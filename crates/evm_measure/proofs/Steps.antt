@@ -1,11 +1,13 @@
 -- The steps of the loops
-use Rattle.std.proofs.Common.{◌≡◌, ℕ, ◌+◌, ◌*◌, Bool, true, false, not, List, [], ◌∷◌, length, ℤ, ◌-ℤ◌, refl, sym, ap, ◌∙◌, arith, Some}
+use Rattle.std.proofs.Common.{◌≡◌, ℕ, ◌+◌, ◌*◌, ◌^◌, ◌≤◌, Bool, true, false, not, List, [], ◌∷◌, length, ℤ, ◌-ℤ◌, refl, sym, ap, ◌∙◌, arith, Some}
 use Rattle.std.specs.Prelude.{unsigned_abs}
-use Rattle.evm_cells.specs.Vertices.{cells}
+use Rattle.evm_cells.specs.Vertices.{cells, IsVertexList}
 use Rattle.evm_cells.specs.Measures.{content}
-use Rattle.evm_rows.specs.Rows.{xor_rows}
+use Rattle.evm_rows.specs.Rows.{AreRows, rows_of, xor_rows}
 use Rattle.std.specs.Prelude.{if◌then◌else◌}
 use Rattle.evm_cells.specs.Booleans.{xor}
+use Rattle.evm_sections.proofs.Lengths.{share_of, length_after}
+use Rattle.evm_sections.proofs.Counting.{line-small}
 use Rattle.evm_sections.specs.Couplets.{first_height, rest_of, AreSingle, mark}
 use Rattle.evm_sections.proofs.Zero.{xor_rows-mark, cells-mark}
 use Rattle.evm_measure.proofs.Sums.{slab_sum}
@@ -22,6 +24,26 @@ slab_more n low h s c t left later total part all e p g so_far =
 pub slab_done : (n : ℕ) (low : ℤ) (s : List (List ℤ)) (left : List (ℤ × List (List ℤ))) (total all : ℕ) → left ≡ [] → total + slab_sum content n low s left ≡ all → total ≡ all
 slab_done n low s left total all e so_far =
     let f : total + 0 ≡ all = rw e at so_far in omega arith
+
+-- the length of a line after a change, by the one before it, that of the change, and that of what both share
+pub record LongAfter (now : List ℤ) (C : List (List ℤ)) (long across shared : ℕ) : Type 0 where
+  pub law : length (cells 1 (xor_rows 1 (rows_of now 1 0) C)) + 2 * shared ≡ long + across
+  pub long_small : long ≤ 2 ^ 31
+  pub across_small : across ≤ 2 ^ 31
+
+pub long_after : (line now : List ℤ) (n : ℕ) (C : List (List ℤ)) (long across shared : ℕ) → now ≡ line → AreRows line 1 0 → n ≡ 1 → IsVertexList n C
+    → long ≡ length (cells 1 (rows_of line 1 0)) → across ≡ length (cells 1 C) → shared ≡ share_of (rows_of now 1 0) C
+    → LongAfter now C long across shared
+long_after line now n C long across shared same rows one vn e f g =
+    let V : List (List ℤ) = rows_of line 1 0 in
+    let v : IsVertexList 1 V = rows.vertices in
+    let vc : IsVertexList 1 C = rw one at vn in
+    let law : length (cells 1 (xor_rows 1 V C)) + 2 * share_of V C ≡ length (cells 1 V) + length (cells 1 C) = length_after V C v vc in
+    record {
+      law = rw (same, e, f) (ap (λ s. length (cells 1 (xor_rows 1 V C)) + 2 * s) (g ∙ ap (λ w. share_of (rows_of w 1 0) C) same) ∙ law);
+      long_small = rw e (line-small V v);
+      across_small = rw f (line-small C vc);
+    }
 
 -- ---- runs of dimension 1
 

@@ -1,5 +1,5 @@
 -- The content and the boundary content by slabs and couplets, and their bounds by the limits
-use Rattle.std.proofs.Common.{◌≡◌, ℕ, zero, suc, ◌+◌, ◌*◌, ◌-◌, ◌^◌, ◌<◌, ◌≤◌, true, cond, not, ◌++◌, List, [], ◌∷◌, length, map, filter, sum_by, ℤ, pos, negsuc, neg_ℤ, ◌-ℤ◌, ◌+ℤ◌, ◌<ℤ◌, ◌≤ℤ◌, refl, sym, ap, ap₂, ◌∙◌, arith, int_lt, zero-add, suc-add, add-one, mul-suc, mul-zero, add_comm}
+use Rattle.std.proofs.Common.{◌≡◌, ℕ, suc, ◌+◌, ◌*◌, ◌-◌, ◌^◌, ◌<◌, ◌≤◌, true, cond, not, ◌++◌, List, [], ◌∷◌, length, map, filter, sum_by, ℤ, pos, negsuc, neg_ℤ, ◌-ℤ◌, ◌+ℤ◌, ◌<ℤ◌, ◌≤ℤ◌, refl, sym, ap, ap₂, ◌∙◌, arith, int_lt, add-one, mul-zero, add_comm}
 use Rattle.std.specs.Prelude.{unsigned_abs}
 use Rattle.std.specs.List.{list_all}
 use Rattle.std.proofs.lemmas.Int.{ints as int_facts}
@@ -24,6 +24,7 @@ use Rattle.evm_sections.specs.Couplets.{couplets_of, couplets_in, rise_above, Ar
 use Rattle.evm_sections.proofs.Rising.{joined-couplets_of}
 use Rattle.evm_sections.proofs.Single.{couplets_of-single}
 use Rattle.evm_sections.proofs.Zero.{cells-mark}
+use Rattle.evm_sections.proofs.Lengths.{sum_run}
 use Rattle.evm_sections.proofs.Heights.{heights, points-heights, couplets_are}
 use Rattle.evm_sections.proofs.Sections.{Above, stays, waits, steps, starts, ends, bottom, bottom_is, low_outside}
 
@@ -38,19 +39,6 @@ face_sum n [] = 0
 face_sum n ((h, c) ∷ cs) = length (cells n c) + face_sum n cs
 
 -- ---- sums over numbers in a row
-
-pub sum_run : (g : ℤ → ℕ) (a : ℤ) (d m v : ℕ) → ((k : ℤ) → a ≤ℤ k → k <ℤ (a +ℤ pos d) → g k ≡ v) → sum_by g (ints a (d + m)) ≡ v * d + sum_by g (ints (a +ℤ pos d) m)
-unfolding ints
-sum_run g a zero m v e =
-    ap₂ (λ (j : ℕ) (z : ℤ). sum_by g (ints z j)) (zero-add m) (let q : a ≡ a +ℤ pos 0 = omega (arith, int_facts) in q) ∙ omega arith
-sum_run g a (suc d) m v e =
-    let h = sum_run g (a +ℤ pos 1) d m v (λ k x y. e k (omega (arith, int_facts)) (omega (arith, int_facts))) in
-    let here : g a ≡ v = e a (omega (arith, int_facts)) (omega (arith, int_facts)) in
-    ap (λ j. sum_by g (ints a j)) (suc-add d m)
-    ∙ sum_by-cons g a (ints (a +ℤ pos 1) (d + m))
-    ∙ ap₂ (λ x y. x + y) here h
-    ∙ ap (λ z. v + (v * d + sum_by g (ints z m))) (let q : a +ℤ pos 1 +ℤ pos d ≡ a +ℤ pos (suc d) = omega (arith, int_facts) in q)
-    ∙ omega (arith, mul-suc v d)
 
 -- ---- the bounds
 

@@ -6,16 +6,12 @@ ghost use Rattle.evm_cells.specs.Vertices.{cells};
 ghost use Rattle.evm_cells.specs.Measures.{content, boundary};
 ghost use Rattle.evm_rows.specs.View.{vertices_of};
 
-mod line;
 mod plane;
-mod section;
 
-use crate::line::counted;
 use crate::plane::{Rooms, measure_plane};
-use crate::section::section_after;
-use evm_rows::{NoMemory, Rows, Solid};
-use evm_sections::Walk;
+use evm_rows::{NoMemory, Rows, Solid, xor_into};
 use evm_sections::marks::Marks;
+use evm_sections::{Walk, counted};
 use std::alloc::Global;
 
 // The length of the runs of a view of dimension 1.
@@ -72,7 +68,7 @@ fn content_in(alloc: Global, a: Rows<'_>, rooms: &mut Rooms) -> Result<u128, NoM
     while let Some((high, couplet)) = walk.next_couplet() {
         let part = content_in(alloc, section.rows(), rooms)?;
         total += part * u128::from(high.abs_diff(low));
-        let next = section_after(room, section.rows(), couplet)?;
+        let next = xor_into(room, section.rows(), couplet)?;
         room = section;
         section = next;
         low = high;
@@ -117,7 +113,7 @@ fn boundary_in(alloc: Global, a: Rows<'_>, rooms: &mut Rooms) -> Result<u128, No
         let along = boundary_in(alloc, section.rows(), rooms)?;
         let across = content_in(alloc, couplet, rooms)?;
         total += along * u128::from(high.abs_diff(low)) + across;
-        let next = section_after(room, section.rows(), couplet)?;
+        let next = xor_into(room, section.rows(), couplet)?;
         room = section;
         section = next;
         low = high;

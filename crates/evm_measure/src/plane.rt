@@ -6,9 +6,8 @@ ghost use Rattle.evm_cells.specs.Measures.{content, boundary};
 ghost use Rattle.evm_rows.specs.Rows.{AreRows, rows_of};
 ghost use Rattle.evm_rows.specs.View.{vertices_of};
 
-use crate::line::changed;
 use evm_rows::{NoMemory, Rows};
-use evm_sections::Walk;
+use evm_sections::{Walk, changed};
 use std::alloc::Global;
 use std::mem;
 
@@ -78,12 +77,12 @@ fn sweep_plane(alloc: Global, a: Rows<'_>, rooms: &mut Rooms) -> Result<Measures
     while let Some((high, couplet)) = walk.next_couplet() {
         let tall = u128::from(high.abs_diff(low));
         let along = ends(&line);
-        let (next, long, across) = changed(spare, &line, length, couplet)?;
+        let next = changed(spare, &line, couplet)?;
         cells += u128::from(length) * tall;
-        faces += along * tall + u128::from(across);
+        faces += along * tall + u128::from(next.across);
+        length = length + next.across - 2 * next.shared;
         spare = line;
-        line = next;
-        length = long;
+        line = next.line;
         low = high;
     }
     rooms.line = line;

@@ -9,10 +9,12 @@
 //! passes over one coordinate more; nothing is copied.
 #![tactic(auto)]
 
+mod line;
 pub mod marks;
 mod sweep;
 mod walk;
 
+pub use line::{Line, LineAfter, changed, counted, first_from, least};
 pub use marks::Marks;
 pub use sweep::{Slab, Sweep};
 pub use walk::{Walk, first_of};

@@ -23,7 +23,7 @@ use Rattle.evm_cells.proofs.Lifts.{has-evm-slice, has-evm-lift, cell_set-lift}
 use Rattle.evm_rows.specs.Rows.{rows_of, flat_of}
 use Rattle.evm_rows.proofs.RowsOrder.{Wide, rows_of-flat_of, length-flat_of}
 use Rattle.evm_rows.proofs.Bridge.{wide-points}
-use Rattle.evm_boolean.proofs.TowerLaws.{flat_of-append}
+use Rattle.evm_rows.proofs.BoxTests.{flat_of-append}
 use native.Mathlib.Nat.{mul-mod_left}
 use Rattle.evm_shapes.specs.declared.moves.Move.TheVariants.{Raise}
 use Rattle.evm_shapes.specs.Moves.{moved, up_to}

@@ -47,8 +47,8 @@ loop-height-preserved t c =
           let above : c.in_ok-above.above.rows ≡ combined_rows (fills c.args.op) (c.dim-dim.result - 1) c.in_ok-next_a.next_a.rows c.in_ok-next_b.next_b.rows =
           rw (dim_a, rows_a, rows_b) at c.in_ok-above.ensures.rows in
           let dim_below : c.loop-height.below.dim ≡ c.dim-dim.result - 1 = omega (arith, inv.below_dim) in
-          let grown : c.append_couplet.new.out.items ≡ c.loop-height.out.items ++ flat_of (under c.in-Some.height (xor_rows (c.dim-dim.result - 1) c.loop-height.below.rows c.in_ok-above.above.rows)) =
-          (rw (same32 c.in-Some.height fits) at c.in_ok-append_couplet.ensures)
+          let grown : c.in_ok-out.out.items ≡ c.loop-height.out.items ++ flat_of (under c.in-Some.height (xor_rows (c.dim-dim.result - 1) c.loop-height.below.rows c.in_ok-above.above.rows)) =
+          (rw (same32 c.in-Some.height fits) at c.in_ok-out.ensures)
           ∙ ap (λ (p : Vertices). c.loop-height.out.items ++ flat_of (under c.in-Some.height (xor_rows p.dim p.rows (vertices_of c.rows-in-Some-3.result).rows))) c.rows-in-Some-2.ensures
           ∙ ap (λ (p : Vertices). c.loop-height.out.items ++ flat_of (under c.in-Some.height (xor_rows c.loop-height.below.dim c.loop-height.below.rows p.rows))) c.rows-in-Some-3.ensures
           ∙ ap (λ m. c.loop-height.out.items ++ flat_of (under c.in-Some.height (xor_rows m c.loop-height.below.rows c.in_ok-above.above.rows))) dim_below in

@@ -7,11 +7,12 @@ use Rattle.evm_rows.specs.Rows.{rows_of, flat_of}
 use Rattle.evm_sections.proofs.Bits.{same32}
 use Rattle.evm_sections.proofs.Zero.{differs}
 use Rattle.evm_boolean.specs.Tower.{lower, fills, under}
-use Rattle.evm_boolean.specs.Lines.{firsts, head_of, least, ones, if_any}
-use Rattle.evm_boolean.proofs.Lines.{rising-firsts}
-use Rattle.evm_boolean.proofs.LineSteps.{numbers-rise, firsts-numbers, four-fall, left-past}
+use Rattle.evm_sections.specs.Lines.{firsts, head_of, least, ones, if_any}
+use Rattle.evm_sections.proofs.Lines.{rising-firsts}
+use Rattle.evm_sections.proofs.LineSteps.{numbers-rise, firsts-numbers, left-past}
+use Rattle.evm_sections.proofs.LineChanges.{starts_at, starts_whole}
 use Rattle.evm_boolean.proofs.TowerCells.{fills-none}
-use Rattle.evm_boolean.proofs.Planes.{Gaining, gaining_start, gaining_more, gaining_done, both_from, starts_at, starts_whole}
+use Rattle.evm_boolean.proofs.Planes.{Gaining, gaining_start, gaining_more, gaining_done, both_from, four-fall}
 use Rattle.evm_boolean.proofs.line.append_gain.Goals as goal
 
 pub loop-next-init : goal.loop-next-init

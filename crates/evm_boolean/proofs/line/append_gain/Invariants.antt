@@ -1,7 +1,7 @@
 use Rattle.std.proofs.Common.{◌+◌, length}
 use Rattle.evm_rows.specs.Rows.{rows_of}
 use Rattle.evm_boolean.specs.Tower.{fills}
-use Rattle.evm_boolean.specs.Lines.{firsts}
+use Rattle.evm_sections.specs.Lines.{firsts}
 use Rattle.evm_boolean.proofs.Planes.{Gaining}
 use Rattle.evm_boolean.proofs.line.append_gain.Given as goal
 
