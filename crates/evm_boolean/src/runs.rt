@@ -53,7 +53,9 @@ pub fn combine_runs(op: Op2, a: Rows<'_>, b: Rows<'_>, room: Solid) -> Result<So
     requires left { (vertices_of a).dim ≡ 1 }
     requires right { (vertices_of b).dim ≡ 1 }
     ensures dim { IfOk result (λ s. s.dim ≡ 1) }
-    ensures rows { IfOk result (λ s. s.rows ≡ combined_rows (fills op) 1 (vertices_of a.entry).rows (vertices_of b.entry).rows) }
+    ensures rows { IfOk result
+        (λ s. s.rows ≡ combined_rows (fills op) 1 (vertices_of a.entry).rows
+        (vertices_of b.entry).rows) }
 {
     let mut left = Marks::of(a);
     let mut right = Marks::of(b);
