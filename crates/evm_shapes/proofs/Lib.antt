@@ -5,4 +5,5 @@ pub mod Sliced
 pub mod Shifted
 pub mod Lone
 pub mod Clipped
+pub mod Missed
 pub mod United

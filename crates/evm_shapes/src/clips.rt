@@ -1,5 +1,5 @@
 // What is inside a box, by rows that are moved into it.
-ghost use Rattle.std.specs.Prelude.{◌≡◌, ◌++◌, length, map, true, IfOk, OnOk};
+ghost use Rattle.std.specs.Prelude.{◌≡◌, [], ◌++◌, length, map, true, IfOk, OnOk};
 ghost use Rattle.std.specs.List.{list_all};
 ghost use Rattle.evm_cells.specs.Boxes.{is_box};
 ghost use Rattle.evm_cells.specs.Vertices.{evm};
@@ -90,6 +90,22 @@ fn all_stay(a: Rows<'_>, lo: &[i32], hi: &[i32]) -> bool
     true
 }
 
+// Whether the box is seen to miss the solid: all rows are on one side of it on the first axis, as the first row or the
+// last shows.
+fn misses(a: Rows<'_>, lo: &[i32], hi: &[i32]) -> bool
+    requires { is_box (vertices_of a).dim lo.now hi.now ≡ true }
+    ensures { result ≡ true → clipped_cells lo.now hi.now (vertices_of a.entry) ≡ [] }
+{
+    let count = a.len();
+    if count == 0 {
+        return false;
+    }
+    if a.coord(count - 1, 1) <= lo[0] {
+        return true;
+    }
+    hi[0] <= a.coord(0, 1)
+}
+
 /// The cells in the box from `lo` up to, but not at, `hi` on each axis, which has a length on each axis and ends within the
 /// limits. Its rows are the rows of the solid, each coordinate moved into the box, that then stand an odd number of times.
 /// Takes memory for the rows once, for a reference a row, and for the answer.
@@ -99,6 +115,9 @@ pub fn clip(alloc: Global, a: Rows<'_>, lo: &[i32], hi: &[i32]) -> Result<Solid,
     ensures rows { IfOk result (λ s. s.rows ≡ evm (vertices_of a.entry).dim (clipped_cells lo.now hi.now (vertices_of a.entry))) }
     ensures cells { IfOk result (λ s. cells_of s ≡ clipped_cells lo.now hi.now (vertices_of a.entry)) }
 {
+    if misses(a, lo, hi) {
+        return Ok(Solid::empty(alloc, a.dim()));
+    }
     if all_stay(a, lo, hi) {
         let solid = own(alloc, a)?;
         return Ok(solid);

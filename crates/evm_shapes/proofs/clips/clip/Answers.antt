@@ -1,8 +1,9 @@
-use Rattle.std.proofs.Common.{◌≡◌, ◌-◌, ◌%◌, ◌++◌, ℤ, List, ℕ, length, map, ap, sym, ◌∙◌, arith, subst}
+use Rattle.std.proofs.Common.{refl, ◌≡◌, ◌-◌, ◌%◌, ◌++◌, ℤ, List, ℕ, length, map, ap, sym, ◌∙◌, arith, subst}
 use Rattle.evm_cells.specs.Vertices.{evm, cells}
 use Rattle.evm_cells.specs.Shapes.{clip}
 use Rattle.evm_rows.specs.Rows.{rows_of, flat_of}
 use Rattle.evm_cells.specs.Windows.{IsReduced}
+use Rattle.evm_cells.proofs.Layers.{evm-empty}
 use Rattle.evm_cells.proofs.Insides.{box_lengths, cell_set-clip}
 use Rattle.evm_shapes.proofs.Shaped.{are_rows_of, cells_of}
 use Rattle.evm_cells.specs.Windows.{clamped}
@@ -15,6 +16,11 @@ all_stay-requires-clause-low c = (box_lengths (c.args.a.width - c.args.a.skip) c
 
 pub all_stay-requires-clause-high : goal.all_stay-requires-clause-high
 all_stay-requires-clause-high c = (box_lengths (c.args.a.width - c.args.a.skip) c.args.lo.now c.args.hi.now c.requires).1
+
+pub returns-then-misses-clause-rows : goal.returns-then-misses-clause-rows
+returns-then-misses-clause-rows c =
+    let n : ℕ = c.args.a.width - c.args.a.skip in
+    c.empty.ensures.rows ∙ sym (evm-empty n) ∙ ap (evm n) (sym (c.if-misses.ensures refl))
 
 pub returns-then-all_stay-clause-rows : goal.returns-then-all_stay-clause-rows
 returns-then-all_stay-clause-rows c =
