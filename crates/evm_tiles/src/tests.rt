@@ -64,6 +64,19 @@ fn compared(alloc: Global) -> Result<(bool, usize, usize), NoMemory> {
     ))
 }
 
+// Whether changes on both sides of a leaf of sixteen hundred rows, and then one in it, give the rows of a list.
+fn beside(alloc: Global) -> Result<bool, NoMemory> {
+    let (_, list) = checker(alloc)?;
+    let tree = Tiles::from_rows(alloc, list.rows())?;
+    let (tree, list) = toggled(alloc, tree, list, 100, 0)?;
+    let (tree, list) = toggled(alloc, tree, list, -100, 0)?;
+    let (tree, list) = toggled(alloc, tree, list, 100, 0)?;
+    let apart = tree.to_rows(alloc)?.same(&list);
+    let (tree, list) = toggled(alloc, tree, list, 10, 11)?;
+    let within = tree.to_rows(alloc)?.same(&list);
+    Ok(apart && within)
+}
+
 // Whether the solid has these rows.
 fn has_rows(solid: &Solid, dim: usize, numbers: &[i32]) -> bool {
     solid.dim() == dim && solid.rows().flat == numbers
@@ -95,5 +108,6 @@ fn overlapped(alloc: Global) -> Result<(bool, bool), NoMemory> {
 #[test]
 fn trees_have_the_rows_of_lists(rt: HostRuntime) {
     assert_eq!(rt; compared(rt.alloc()), Ok((true, 4, 40)));
+    assert_eq!(rt; beside(rt.alloc()), Ok(true));
     assert_eq!(rt; overlapped(rt.alloc()), Ok((true, true)));
 }
