@@ -71,7 +71,7 @@ fn prism(alloc: Global, a: Rows<'_>, axis: usize, lo: i32, hi: i32) -> Result<So
 /// but not at, `hi`, both in the limits of vertices of the dimension that it has then.
 ///
 /// Each row stands once at `lo` and once at `hi`; the two ascending lists are sorted into one. Takes memory for the rows
-/// of the prism twice, and for two references a row while they are sorted.
+/// of the prism twice, and for a reference a row while they are sorted.
 ///
 /// # Errors
 ///

@@ -49,7 +49,7 @@ fn unite(alloc: Global, sweep: &mut Sweep<'_>, count: usize) -> Result<Solid, No
 
 /// The projection along an axis, counted from 1: each cell without its coordinate there, once. It is the union of all
 /// sections along the axis. The axis is put first, by one sort, and the sections of the slabs are united half by half,
-/// so that small unions are made of small ones. Takes memory for the rows twice, for two references a row while they are
+/// so that small unions are made of small ones. Takes memory for the rows twice, for a reference a row while they are
 /// sorted, and for the unions of one branch of the halving.
 pub fn project(alloc: Global, a: Rows<'_>, axis: usize) -> Result<Solid, NoMemory>
     requires deep { 2 ≤ (vertices_of a).dim }

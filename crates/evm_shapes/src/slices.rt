@@ -39,7 +39,7 @@ fn append_all_up_to(out: &mut Vec<i32>, a: Rows<'_>, axis: usize, at: i32) -> Re
 
 /// The section at the cell coordinate `at` of an axis, counted from 1: the cells with this coordinate there, without it.
 /// Its vertices are the rows up to this height, without the coordinate, that occur an odd number of times; they are
-/// sorted once. Takes memory for these rows twice, and for two references a row while they are sorted.
+/// sorted once. Takes memory for these rows twice, and for a reference a row while they are sorted.
 pub fn slice(alloc: Global, a: Rows<'_>, axis: usize, at: i32) -> Result<Solid, NoMemory>
     requires deep { 2 ≤ (vertices_of a).dim }
     requires low { 0 < axis }

@@ -4,7 +4,7 @@ ghost use Rattle.evm_cells.specs.Vertices.{evm};
 ghost use Rattle.evm_rows.specs.Rows.{rows_of, cells_of};
 ghost use Rattle.evm_rows.specs.View.{vertices_of};
 ghost use Rattle.evm_shapes.specs.Moves.{moved, moved_dim, IsMoveOf};
-ghost use Rattle.evm_shapes.specs.Order.{IsReduced};
+ghost use Rattle.evm_cells.specs.Windows.{IsReduced};
 ghost use Rattle.evm_shapes.specs.Shapes.{mirrored_cells, swapped_cells, fronted_cells};
 
 use crate::moves::{Move, append_all_moved};
@@ -27,8 +27,8 @@ fn rearranged(alloc: Global, a: Rows<'_>, step: Move) -> Result<Vec<i32>, AllocE
 }
 
 /// The mirror image across an axis: each cell coordinate x on it becomes -1 - x. Axes are counted from 1. Each vertex
-/// coordinate becomes its negative, and the rows are sorted once. Takes memory for the rows twice, and for two
-/// references a row while they are sorted.
+/// coordinate becomes its negative, and the rows are sorted once. Takes memory for the rows twice, and for a
+/// reference a row while they are sorted.
 pub fn mirror(alloc: Global, a: Rows<'_>, axis: usize) -> Result<Solid, NoMemory>
     requires low { 0 < axis }
     requires high { axis ≤ (vertices_of a).dim }
@@ -42,7 +42,7 @@ pub fn mirror(alloc: Global, a: Rows<'_>, axis: usize) -> Result<Solid, NoMemory
 }
 
 /// The solid with the axes `i` and `j` exchanged, which may be one axis. Axes are counted from 1. The rows are sorted
-/// once. Takes memory for the rows twice, and for two references a row while they are sorted.
+/// once. Takes memory for the rows twice, and for a reference a row while they are sorted.
 pub fn swap(alloc: Global, a: Rows<'_>, i: usize, j: usize) -> Result<Solid, NoMemory>
     requires first_low { 0 < i }
     requires first_high { i ≤ (vertices_of a).dim }
