@@ -48,7 +48,9 @@ fn append_all_clamped(
 ) -> Result<(), AllocError>
     requires low { length lo.now ≡ (vertices_of a).dim }
     requires high { length hi.now ≡ (vertices_of a).dim }
-    ensures { OnOk result (out.new.items ≡ out.old.items ++ flat_of (map (clamped lo.now hi.now) (vertices_of a.entry).rows)) }
+    ensures { OnOk result
+        (out.new.items ≡ out.old.items
+        ++ flat_of (map (clamped lo.now hi.now) (vertices_of a.entry).rows)) }
 {
     let mut left = a.flat;
     while left.len() != 0 {
@@ -112,8 +114,11 @@ fn misses(a: Rows<'_>, lo: &[i32], hi: &[i32]) -> bool
 pub fn clip(alloc: Global, a: Rows<'_>, lo: &[i32], hi: &[i32]) -> Result<Solid, NoMemory>
     requires { is_box (vertices_of a).dim lo.now hi.now ≡ true }
     ensures dim { IfOk result (λ s. s.dim ≡ (vertices_of a.entry).dim) }
-    ensures rows { IfOk result (λ s. s.rows ≡ evm (vertices_of a.entry).dim (clipped_cells lo.now hi.now (vertices_of a.entry))) }
-    ensures cells { IfOk result (λ s. cells_of s ≡ clipped_cells lo.now hi.now (vertices_of a.entry)) }
+    ensures rows { IfOk result
+        (λ s. s.rows ≡ evm (vertices_of a.entry).dim
+        (clipped_cells lo.now hi.now (vertices_of a.entry))) }
+    ensures cells { IfOk result
+        (λ s. cells_of s ≡ clipped_cells lo.now hi.now (vertices_of a.entry)) }
 {
     if misses(a, lo, hi) {
         return Ok(Solid::empty(alloc, a.dim()));

@@ -61,7 +61,8 @@ pub(crate) fn reduced(alloc: Global, flat: &[i32], width: usize) -> Result<Vec<i
     requires narrow { width ≤ 6 }
     requires whole { length flat.now % width ≡ 0 }
     ensures whole { IfOk result (λ v. length v.items % width ≡ 0) }
-    ensures rows { IfOk result (λ v. IsReduced width (rows_of flat.now width 0) (rows_of v.items width 0)) }
+    ensures rows { IfOk result
+        (λ v. IsReduced width (rows_of flat.now width 0) (rows_of v.items width 0)) }
 {
     let mut rows = lone_rows(alloc, flat, width)?;
     rows.sort_unstable();

@@ -33,7 +33,8 @@ fn unite(alloc: Global, sweep: &mut Sweep<'_>, count: usize) -> Result<Solid, No
     ensures same_dim { sweep.new.dim ≡ sweep.old.dim }
     ensures left { OnOk result (sweep.new.left ≡ drop count sweep.old.left) }
     ensures dim { IfOk result (λ s. s.dim ≡ sweep.old.dim) }
-    ensures rows { IfOk result (λ s. s.rows ≡ united sweep.old.dim (sections_of (take count sweep.old.left))) }
+    ensures rows { IfOk result
+        (λ s. s.rows ≡ united sweep.old.dim (sections_of (take count sweep.old.left))) }
 {
     if count == 1 {
         sweep.advance(alloc)?;
@@ -56,7 +57,9 @@ pub fn project(alloc: Global, a: Rows<'_>, axis: usize) -> Result<Solid, NoMemor
     requires low { 0 < axis }
     requires high { axis ≤ (vertices_of a).dim }
     ensures dim { IfOk result (λ s. s.dim ≡ (vertices_of a.entry).dim - 1) }
-    ensures rows { IfOk result (λ s. s.rows ≡ evm ((vertices_of a.entry).dim - 1) (projected_cells axis (vertices_of a.entry))) }
+    ensures rows { IfOk result
+        (λ s. s.rows ≡ evm ((vertices_of a.entry).dim - 1)
+        (projected_cells axis (vertices_of a.entry))) }
     ensures cells { IfOk result (λ s. cells_of s ≡ projected_cells axis (vertices_of a.entry)) }
 {
     let turned = fronted(alloc, a, axis)?;

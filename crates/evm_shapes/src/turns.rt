@@ -17,7 +17,9 @@ fn rearranged(alloc: Global, a: Rows<'_>, step: Move) -> Result<Vec<i32>, AllocE
     requires axes { IsMoveOf (vertices_of a).dim step }
     requires keeps { moved_dim step (vertices_of a).dim ≡ (vertices_of a).dim }
     ensures whole { IfOk result (λ v. length v.items % (vertices_of a.entry).dim ≡ 0) }
-    ensures rows { IfOk result (λ v. IsReduced (vertices_of a.entry).dim (map (moved step) (vertices_of a.entry).rows) (rows_of v.items (vertices_of a.entry).dim 0)) }
+    ensures rows { IfOk result
+        (λ v. IsReduced (vertices_of a.entry).dim (map (moved step) (vertices_of a.entry).rows)
+        (rows_of v.items (vertices_of a.entry).dim 0)) }
 {
     let dim = a.dim();
     let mut moved = Vec::with_capacity(alloc, a.flat.len())?;
@@ -33,7 +35,8 @@ pub fn mirror(alloc: Global, a: Rows<'_>, axis: usize) -> Result<Solid, NoMemory
     requires low { 0 < axis }
     requires high { axis ≤ (vertices_of a).dim }
     ensures dim { IfOk result (λ s. s.dim ≡ (vertices_of a.entry).dim) }
-    ensures rows { IfOk result (λ s. s.rows ≡ evm (vertices_of a.entry).dim (mirrored_cells axis (vertices_of a.entry))) }
+    ensures rows { IfOk result
+        (λ s. s.rows ≡ evm (vertices_of a.entry).dim (mirrored_cells axis (vertices_of a.entry))) }
     ensures cells { IfOk result (λ s. cells_of s ≡ mirrored_cells axis (vertices_of a.entry)) }
 {
     let dim = a.dim();
@@ -49,7 +52,8 @@ pub fn swap(alloc: Global, a: Rows<'_>, i: usize, j: usize) -> Result<Solid, NoM
     requires second_low { 0 < j }
     requires second_high { j ≤ (vertices_of a).dim }
     ensures dim { IfOk result (λ s. s.dim ≡ (vertices_of a.entry).dim) }
-    ensures rows { IfOk result (λ s. s.rows ≡ evm (vertices_of a.entry).dim (swapped_cells i j (vertices_of a.entry))) }
+    ensures rows { IfOk result
+        (λ s. s.rows ≡ evm (vertices_of a.entry).dim (swapped_cells i j (vertices_of a.entry))) }
     ensures cells { IfOk result (λ s. cells_of s ≡ swapped_cells i j (vertices_of a.entry)) }
 {
     let dim = a.dim();
@@ -63,7 +67,8 @@ pub(crate) fn fronted(alloc: Global, a: Rows<'_>, axis: usize) -> Result<Solid, 
     requires low { 0 < axis }
     requires high { axis ≤ (vertices_of a).dim }
     ensures dim { IfOk result (λ s. s.dim ≡ (vertices_of a.entry).dim) }
-    ensures rows { IfOk result (λ s. s.rows ≡ evm (vertices_of a.entry).dim (fronted_cells axis (vertices_of a.entry))) }
+    ensures rows { IfOk result
+        (λ s. s.rows ≡ evm (vertices_of a.entry).dim (fronted_cells axis (vertices_of a.entry))) }
 {
     let dim = a.dim();
     let flat = rearranged(alloc, a, Move::Front(axis - 1))?;
