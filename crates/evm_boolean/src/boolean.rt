@@ -64,7 +64,8 @@ fn advance(
     ensures walk_dim { walk.new.dim ≡ walk.old.dim }
     ensures left { walk.new.left ≡ after height walk.old.left }
     ensures dim { IfOk result (λ p. p.0.dim ≡ section.dim) }
-    ensures rows { IfOk result (λ p. p.0.rows ≡ section_at section.dim height section.rows walk.old.left) }
+    ensures rows { IfOk result
+        (λ p. p.0.rows ≡ section_at section.dim height section.rows walk.old.left) }
 {
     if walk.height() != Some(height) {
         return Ok((section, spare));
@@ -125,7 +126,9 @@ fn give_back(rooms: &mut Vec<Solid>, done: [Solid; 5]) -> Result<(), NoMemory> {
 // The Boolean of a view without rows and another view.
 fn of_right(op: Op2, b: Rows<'_>, room: Solid) -> Result<Solid, NoMemory>
     ensures dim { IfOk result (λ s. s.dim ≡ (vertices_of b.entry).dim) }
-    ensures rows { IfOk result (λ s. s.rows ≡ combined_rows (fills op) (vertices_of b.entry).dim [] (vertices_of b.entry).rows) }
+    ensures rows { IfOk result
+        (λ s. s.rows ≡ combined_rows (fills op) (vertices_of b.entry).dim []
+        (vertices_of b.entry).rows) }
 {
     if op.fills(false, true) {
         let all = own_into(room, b)?;
@@ -137,7 +140,9 @@ fn of_right(op: Op2, b: Rows<'_>, room: Solid) -> Result<Solid, NoMemory>
 // The Boolean of a view and a view without rows.
 fn of_left(op: Op2, a: Rows<'_>, room: Solid) -> Result<Solid, NoMemory>
     ensures dim { IfOk result (λ s. s.dim ≡ (vertices_of a.entry).dim) }
-    ensures rows { IfOk result (λ s. s.rows ≡ combined_rows (fills op) (vertices_of a.entry).dim (vertices_of a.entry).rows []) }
+    ensures rows { IfOk result
+        (λ s. s.rows ≡ combined_rows (fills op) (vertices_of a.entry).dim
+        (vertices_of a.entry).rows []) }
 {
     if op.fills(true, false) {
         let all = own_into(room, a)?;
@@ -160,8 +165,13 @@ fn of_left(op: Op2, a: Rows<'_>, room: Solid) -> Result<Solid, NoMemory>
 pub fn combine(alloc: Global, op: Op2, a: Rows<'_>, b: Rows<'_>) -> Result<Solid, NoMemory>
     requires { (vertices_of a).dim ≡ (vertices_of b).dim }
     ensures dim { IfOk result (λ s. s.dim ≡ (vertices_of a.entry).dim) }
-    ensures rows { IfOk result (λ s. s.rows ≡ combined_rows (fills op) (vertices_of a.entry).dim (vertices_of a.entry).rows (vertices_of b.entry).rows) }
-    ensures cells { IfOk result (λ s. cells s.dim s.rows ≡ CellBooleans.combine (fills op) s.dim (cells s.dim (vertices_of a.entry).rows) (cells s.dim (vertices_of b.entry).rows)) }
+    ensures rows { IfOk result
+        (λ s. s.rows ≡ combined_rows (fills op) (vertices_of a.entry).dim
+        (vertices_of a.entry).rows (vertices_of b.entry).rows) }
+    ensures cells { IfOk result
+        (λ s. cells s.dim s.rows
+        ≡ CellBooleans.combine (fills op) s.dim (cells s.dim (vertices_of a.entry).rows)
+        (cells s.dim (vertices_of b.entry).rows)) }
 {
     let room = Solid::empty(alloc, 1);
     let mut rooms = Vec::new(alloc);
@@ -180,7 +190,9 @@ fn combine_into(
 ) -> Result<Solid, NoMemory>
     requires { (vertices_of a).dim ≡ (vertices_of b).dim }
     ensures dim { IfOk result (λ s. s.dim ≡ (vertices_of a.entry).dim) }
-    ensures rows { IfOk result (λ s. s.rows ≡ combined_rows (fills op) (vertices_of a.entry).dim (vertices_of a.entry).rows (vertices_of b.entry).rows) }
+    ensures rows { IfOk result
+        (λ s. s.rows ≡ combined_rows (fills op) (vertices_of a.entry).dim
+        (vertices_of a.entry).rows (vertices_of b.entry).rows) }
 {
     if a.flat.len() == 0 {
         let all = of_right(op, b, room)?;
@@ -225,8 +237,12 @@ fn combine_into(
 pub fn or(alloc: Global, a: Rows<'_>, b: Rows<'_>) -> Result<Solid, NoMemory>
     requires { (vertices_of a).dim ≡ (vertices_of b).dim }
     ensures dim { IfOk result (λ s. s.dim ≡ (vertices_of a.entry).dim) }
-    ensures vertices { IfOk result (λ s. s ≡ or_vertices (vertices_of a.entry) (vertices_of b.entry)) }
-    ensures cells { IfOk result (λ s. cells s.dim s.rows ≡ or_cells s.dim (cells s.dim (vertices_of a.entry).rows) (cells s.dim (vertices_of b.entry).rows)) }
+    ensures vertices { IfOk result
+        (λ s. s ≡ or_vertices (vertices_of a.entry) (vertices_of b.entry)) }
+    ensures cells { IfOk result
+        (λ s. cells s.dim s.rows
+        ≡ or_cells s.dim (cells s.dim (vertices_of a.entry).rows)
+        (cells s.dim (vertices_of b.entry).rows)) }
 {
     let solid = combine(alloc, Op2::Or, a, b)?;
     Ok(solid)
@@ -236,8 +252,12 @@ pub fn or(alloc: Global, a: Rows<'_>, b: Rows<'_>) -> Result<Solid, NoMemory>
 pub fn and(alloc: Global, a: Rows<'_>, b: Rows<'_>) -> Result<Solid, NoMemory>
     requires { (vertices_of a).dim ≡ (vertices_of b).dim }
     ensures dim { IfOk result (λ s. s.dim ≡ (vertices_of a.entry).dim) }
-    ensures vertices { IfOk result (λ s. s ≡ and_vertices (vertices_of a.entry) (vertices_of b.entry)) }
-    ensures cells { IfOk result (λ s. cells s.dim s.rows ≡ and_cells s.dim (cells s.dim (vertices_of a.entry).rows) (cells s.dim (vertices_of b.entry).rows)) }
+    ensures vertices { IfOk result
+        (λ s. s ≡ and_vertices (vertices_of a.entry) (vertices_of b.entry)) }
+    ensures cells { IfOk result
+        (λ s. cells s.dim s.rows
+        ≡ and_cells s.dim (cells s.dim (vertices_of a.entry).rows)
+        (cells s.dim (vertices_of b.entry).rows)) }
 {
     let solid = combine(alloc, Op2::And, a, b)?;
     Ok(solid)
@@ -248,8 +268,12 @@ pub fn and(alloc: Global, a: Rows<'_>, b: Rows<'_>) -> Result<Solid, NoMemory>
 pub fn sub(alloc: Global, a: Rows<'_>, b: Rows<'_>) -> Result<Solid, NoMemory>
     requires { (vertices_of a).dim ≡ (vertices_of b).dim }
     ensures dim { IfOk result (λ s. s.dim ≡ (vertices_of a.entry).dim) }
-    ensures vertices { IfOk result (λ s. s ≡ sub_vertices (vertices_of a.entry) (vertices_of b.entry)) }
-    ensures cells { IfOk result (λ s. cells s.dim s.rows ≡ sub_cells s.dim (cells s.dim (vertices_of a.entry).rows) (cells s.dim (vertices_of b.entry).rows)) }
+    ensures vertices { IfOk result
+        (λ s. s ≡ sub_vertices (vertices_of a.entry) (vertices_of b.entry)) }
+    ensures cells { IfOk result
+        (λ s. cells s.dim s.rows
+        ≡ sub_cells s.dim (cells s.dim (vertices_of a.entry).rows)
+        (cells s.dim (vertices_of b.entry).rows)) }
 {
     let solid = combine(alloc, Op2::Sub, a, b)?;
     Ok(solid)

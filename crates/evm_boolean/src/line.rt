@@ -23,7 +23,8 @@ fn gain(op: Op2, a: bool, b: bool, change_a: bool, change_b: bool) -> bool
 // Appends the height and the number, if `yes`.
 #[inline(always)]
 fn append_point(out: &mut Vec<i32>, height: i32, at: i32, yes: bool) -> Result<(), AllocError>
-    ensures { OnOk result (out.new.items ≡ out.old.items ++ flat_of (raised (Some height) (ones (if_any yes at)))) }
+    ensures { OnOk result
+        (out.new.items ≡ out.old.items ++ flat_of (raised (Some height) (ones (if_any yes at)))) }
 {
     if yes {
         out.push(height)?;
@@ -47,7 +48,13 @@ pub fn append_gain(
     requires line_b { AreRows line_b.now 1 0 }
     requires change_a { (vertices_of change_a).dim ≡ 1 }
     requires change_b { (vertices_of change_b).dim ≡ 1 }
-    ensures { OnOk result (out.new.items ≡ out.old.items ++ flat_of (raised (Some height) (xor_rows 1 (combined_rows (fills op) 1 (rows_of line_a.now 1 0) (rows_of line_b.now 1 0)) (combined_rows (fills op) 1 (xor_rows 1 (rows_of line_a.now 1 0) (vertices_of change_a.entry).rows) (xor_rows 1 (rows_of line_b.now 1 0) (vertices_of change_b.entry).rows))))) }
+    ensures { OnOk result
+        (out.new.items ≡ out.old.items
+        ++ flat_of (raised (Some height)
+        (xor_rows 1 (combined_rows (fills op) 1 (rows_of line_a.now 1 0) (rows_of line_b.now 1 0))
+        (combined_rows (fills op) 1
+        (xor_rows 1 (rows_of line_a.now 1 0) (vertices_of change_a.entry).rows)
+        (xor_rows 1 (rows_of line_b.now 1 0) (vertices_of change_b.entry).rows))))) }
 {
     let mut c = Line::of_rows(change_a);
     let mut d = Line::of_rows(change_b);

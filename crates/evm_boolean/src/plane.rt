@@ -55,7 +55,9 @@ fn line_after(
     requires line { AreRows line.items 1 0 }
     requires change { (vertices_of change).dim ≡ 1 }
     ensures are_rows { IfOk result (λ p. AreRows p.0.items 1 0) }
-    ensures rows { IfOk result (λ p. rows_of p.0.items 1 0 ≡ xor_rows 1 (rows_of line.items 1 0) (vertices_of change.entry).rows) }
+    ensures rows { IfOk result
+        (λ p. rows_of p.0.items 1 0
+        ≡ xor_rows 1 (rows_of line.items 1 0) (vertices_of change.entry).rows) }
 {
     if change.flat.len() == 0 {
         return Ok((line, spare));
@@ -95,7 +97,9 @@ fn sweep_planes(
     requires left { (vertices_of a).dim ≡ 2 }
     requires right { (vertices_of b).dim ≡ 2 }
     ensures dim { IfOk result (λ s. s.dim ≡ 2) }
-    ensures rows { IfOk result (λ s. s.rows ≡ combined_rows (fills op) 2 (vertices_of a.entry).rows (vertices_of b.entry).rows) }
+    ensures rows { IfOk result
+        (λ s. s.rows ≡ combined_rows (fills op) 2 (vertices_of a.entry).rows
+        (vertices_of b.entry).rows) }
 {
     let none_a = none_of(a);
     let none_b = none_of(b);
@@ -147,7 +151,9 @@ fn combine_by_op(
     requires left { (vertices_of a).dim ≡ 2 }
     requires right { (vertices_of b).dim ≡ 2 }
     ensures dim { IfOk result (λ s. s.dim ≡ 2) }
-    ensures rows { IfOk result (λ s. s.rows ≡ combined_rows (fills op) 2 (vertices_of a.entry).rows (vertices_of b.entry).rows) }
+    ensures rows { IfOk result
+        (λ s. s.rows ≡ combined_rows (fills op) 2 (vertices_of a.entry).rows
+        (vertices_of b.entry).rows) }
 {
     match op {
         Op2::Or => sweep_planes(alloc, Op2::Or, a, b, room, rooms),
@@ -170,7 +176,9 @@ pub fn combine_planes(
     requires left { (vertices_of a).dim ≡ 2 }
     requires right { (vertices_of b).dim ≡ 2 }
     ensures dim { IfOk result (λ s. s.dim ≡ 2) }
-    ensures rows { IfOk result (λ s. s.rows ≡ combined_rows (fills op) 2 (vertices_of a.entry).rows (vertices_of b.entry).rows) }
+    ensures rows { IfOk result
+        (λ s. s.rows ≡ combined_rows (fills op) 2 (vertices_of a.entry).rows
+        (vertices_of b.entry).rows) }
 {
     if a.skip == 0 && b.skip == 0 {
         return combine_by_op(alloc, op, of_width(2, a), of_width(2, b), room, rooms);

@@ -40,7 +40,8 @@ fn passes(walk: &mut Marks<'_>, height: i32) -> bool
 
 // Appends the height, if `yes`.
 fn append_mark(out: &mut Vec<i32>, height: i32, yes: bool) -> Result<(), AllocError>
-    ensures { OnOk result (out.new.items ≡ out.old.items ++ flat_of (raised (Some height) (mark yes))) }
+    ensures { OnOk result
+        (out.new.items ≡ out.old.items ++ flat_of (raised (Some height) (mark yes))) }
 {
     if yes {
         out.push(height)?;
@@ -53,7 +54,9 @@ pub fn combine_runs(op: Op2, a: Rows<'_>, b: Rows<'_>, room: Solid) -> Result<So
     requires left { (vertices_of a).dim ≡ 1 }
     requires right { (vertices_of b).dim ≡ 1 }
     ensures dim { IfOk result (λ s. s.dim ≡ 1) }
-    ensures rows { IfOk result (λ s. s.rows ≡ combined_rows (fills op) 1 (vertices_of a.entry).rows (vertices_of b.entry).rows) }
+    ensures rows { IfOk result
+        (λ s. s.rows ≡ combined_rows (fills op) 1 (vertices_of a.entry).rows
+        (vertices_of b.entry).rows) }
 {
     let mut left = Marks::of(a);
     let mut right = Marks::of(b);

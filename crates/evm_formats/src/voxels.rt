@@ -87,7 +87,7 @@ pub enum Sampling {
 /// - `samples`: a header and all its samples state the image of these, whatever follows.
 /// - `short`: a header with fewer bytes than its samples is refused for that.
 /// - `written`: bytes that state an image are such a header, its samples, and what follows.
-/// - `joined`: the bytes of two stacks of one size state the images of the first and then those of the second.
+/// - `joined`: in dimension 3, the bytes of two stacks of one size state the images of the first and then those of the second.
 /// - `cells`: a stack states the cells of its images.
 /// - `raised`: the cells of images behind others are those of the first and, raised by their number, those of the second.
 /// - `listed`: the cells within sizes can be listed place by place, as the worked files are.
@@ -108,7 +108,7 @@ pub fn stacks_state_images()
 
 /// What the bytes of a Y4M stream state.
 ///
-/// - `joined`: frames and then other frames, behind one first line, are the first and then the others.
+/// - `joined`: in dimension 3, frames and then other frames, behind one first line, are the first and then the others.
 /// - `cell_sets`: the cells that a stream or a stack states are a cell set.
 /// - `worked`: a stream of two frames, at two thresholds.
 pub fn streams_state_frames()

@@ -42,7 +42,8 @@ fn runs(a: Rows<'_>) -> u128
 /// holds two sections, flat lists of `i32` whose rooms are used in turn, those of dimension 1 by all slabs, so it allocates only
 /// while they grow. No couplet is copied. The one error is want of memory.
 pub fn content(alloc: Global, a: Rows<'_>) -> Result<u128, NoMemory>
-    ensures { IfOk result (λ n. n ≡ content (cells (vertices_of a.entry).dim (vertices_of a.entry).rows)) }
+    ensures { IfOk result
+        (λ n. n ≡ content (cells (vertices_of a.entry).dim (vertices_of a.entry).rows)) }
 {
     let mut rooms = Rooms::new(alloc);
     content_in(alloc, a, &mut rooms)
@@ -50,7 +51,8 @@ pub fn content(alloc: Global, a: Rows<'_>) -> Result<u128, NoMemory>
 
 // The content, in rooms for the sections of planes.
 fn content_in(alloc: Global, a: Rows<'_>, rooms: &mut Rooms) -> Result<u128, NoMemory>
-    ensures { IfOk result (λ n. n ≡ content (cells (vertices_of a.entry).dim (vertices_of a.entry).rows)) }
+    ensures { IfOk result
+        (λ n. n ≡ content (cells (vertices_of a.entry).dim (vertices_of a.entry).rows)) }
 {
     let dim = a.dim();
     if dim == 1 {
@@ -86,7 +88,9 @@ fn content_in(alloc: Global, a: Rows<'_>, rooms: &mut Rooms) -> Result<u128, NoM
 /// One walk serves both sums. Memory is as for [`content`]: two sections a level, whose rooms are used in turn, and no copy of a
 /// couplet. The one error is want of memory.
 pub fn boundary(alloc: Global, a: Rows<'_>) -> Result<u128, NoMemory>
-    ensures { IfOk result (λ n. n ≡ boundary (vertices_of a.entry).dim (cells (vertices_of a.entry).dim (vertices_of a.entry).rows)) }
+    ensures { IfOk result
+        (λ n. n ≡ boundary (vertices_of a.entry).dim
+        (cells (vertices_of a.entry).dim (vertices_of a.entry).rows)) }
 {
     let mut rooms = Rooms::new(alloc);
     boundary_in(alloc, a, &mut rooms)
@@ -94,7 +98,9 @@ pub fn boundary(alloc: Global, a: Rows<'_>) -> Result<u128, NoMemory>
 
 // The boundary content, in rooms for the sections of planes.
 fn boundary_in(alloc: Global, a: Rows<'_>, rooms: &mut Rooms) -> Result<u128, NoMemory>
-    ensures { IfOk result (λ n. n ≡ boundary (vertices_of a.entry).dim (cells (vertices_of a.entry).dim (vertices_of a.entry).rows)) }
+    ensures { IfOk result
+        (λ n. n ≡ boundary (vertices_of a.entry).dim
+        (cells (vertices_of a.entry).dim (vertices_of a.entry).rows)) }
 {
     let dim = a.dim();
     if dim == 1 {

@@ -65,7 +65,8 @@ fn ends(line: &[i32]) -> u128
 fn sweep_plane(alloc: Global, a: Rows<'_>, rooms: &mut Rooms) -> Result<Measures, NoMemory>
     requires { (vertices_of a).dim ≡ 2 }
     ensures content { IfOk result (λ m. m.content ≡ content (cells 2 (vertices_of a.entry).rows)) }
-    ensures boundary { IfOk result (λ m. m.boundary ≡ boundary 2 (cells 2 (vertices_of a.entry).rows)) }
+    ensures boundary { IfOk result
+        (λ m. m.boundary ≡ boundary 2 (cells 2 (vertices_of a.entry).rows)) }
 {
     let mut walk = Walk::of(a);
     let mut line = rooms.take_line(alloc);
@@ -112,7 +113,8 @@ fn of_width<'a>(width: usize, a: Rows<'a>) -> Rows<'a>
 pub fn measure_plane(alloc: Global, a: Rows<'_>, rooms: &mut Rooms) -> Result<Measures, NoMemory>
     requires { (vertices_of a).dim ≡ 2 }
     ensures content { IfOk result (λ m. m.content ≡ content (cells 2 (vertices_of a.entry).rows)) }
-    ensures boundary { IfOk result (λ m. m.boundary ≡ boundary 2 (cells 2 (vertices_of a.entry).rows)) }
+    ensures boundary { IfOk result
+        (λ m. m.boundary ≡ boundary 2 (cells 2 (vertices_of a.entry).rows)) }
 {
     if a.skip == 0 {
         return sweep_plane(alloc, of_width(2, a), rooms);

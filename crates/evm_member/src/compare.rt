@@ -5,7 +5,7 @@ ghost use Rattle.evm_member.specs.Levels.{level_axes, starts_above};
 
 use std::cmp::Ordering;
 
-// Whether the row is above the place on the first axis. Then so are all rows after it.
+/// Whether the row is above the place on the first axis. Then so are all rows after it.
 #[inline(always)]
 pub fn is_past(row: &[i32], place: &[i32]) -> bool
     requires row { 0 < length row.now }
@@ -15,7 +15,7 @@ pub fn is_past(row: &[i32], place: &[i32]) -> bool
     row[0] > place[0]
 }
 
-// Whether the row is above the place on no axis.
+/// Whether the row is above the place on no axis.
 #[inline(always)]
 pub fn is_below(row: &[i32], place: &[i32]) -> bool
     requires { length row.now ≡ length place.now }
@@ -29,13 +29,14 @@ pub fn is_below(row: &[i32], place: &[i32]) -> bool
     true
 }
 
-// The axes on which the row has the coordinate of the point, as bits from the first axis on; none if the row is above
-// the point on some axis.
+/// The axes on which the row has the coordinate of the point, as bits from the first axis on; none if the row is above
+/// the point on some axis.
 #[inline(always)]
 pub fn level_with(row: &[i32], point: &[i32]) -> Option<u32>
     requires long { length row.now ≡ length point.now }
     requires few { length point.now ≤ 6 }
-    ensures axes { result ≡ (if each int_le row.now point.now then Some (level_axes 1 row.now point.now) else None) }
+    ensures axes { result
+        ≡ (if each int_le row.now point.now then Some (level_axes 1 row.now point.now) else None) }
     ensures few { IfSome result (λ axes. axes < 64) }
 {
     let mut axes = 0u32;

@@ -15,7 +15,8 @@ use evm_rows::{Rows, split_row};
 // other axes.
 fn odd_levels(a: Rows<'_>, point: &[i32]) -> u64
     requires { length point.now ≡ (vertices_of a).dim }
-    ensures { (axes : ℕ) → bit_at result axes ≡ count_by (is_level point.now axes) (vertices_of a.entry).rows % 2 }
+    ensures { (axes : ℕ)
+        → bit_at result axes ≡ count_by (is_level point.now axes) (vertices_of a.entry).rows % 2 }
 {
     let mut odd = 0u64;
     let mut left = a.flat;

@@ -74,7 +74,8 @@ impl Source for MemSource {
         // Else it gives as many bytes as are left, as a call gives and as there is space for.
         ensures count { IfOk result (λ n. n ≡ share_of self.old (length into.old)) }
         // The bytes behind those that it gave are as before.
-        ensures put { MatchResult result (λ n. into.new ≡ take n self.old.left ++ drop n into.old) (λ _. into.new ≡ into.old) }
+        ensures put { MatchResult result (λ n. into.new ≡ take n self.old.left ++ drop n into.old)
+            (λ _. into.new ≡ into.old) }
         ensures after { self.new ≡ tape_after self.old result }
     {
         let failed = self.refused.contains(&self.number);
@@ -126,7 +127,8 @@ impl MemSink {
     /// A sink with room for so many bytes, which it reserves at once, so that no later call takes memory.
     /// Calls fail at the numbers of `failing`, counted from 0. [`NoMemory`] where the room is not to be had.
     pub fn new(alloc: Global, room: usize, failing: Vec<u64>) -> Result<MemSink, NoMemory>
-        ensures { IfOk result (λ made. made ≡ record { written = []; room = room; failing = failing.items; calls = 0; faults = 0 }) }
+        ensures { IfOk result
+            (λ made. made ≡ record { written = []; room = room; failing = failing.items; calls = 0; faults = 0 }) }
     {
         let Ok(bytes) = Vec::with_capacity(alloc, room) else {
             return Err(NoMemory);

@@ -26,7 +26,8 @@ pub struct FolderShelf<R> {
 impl<R: Files + Drop> FolderShelf<R> {
     /// A shelf over the current folder of this runtime, of which no call has failed. Takes no memory.
     pub fn new(rt: R) -> FolderShelf<R>
-        ensures { (files_of_folder result ≡ rt) × (folder_faults result ≡ 0) × (folder_misses result ≡ 0) }
+        ensures { (files_of_folder result ≡ rt) × (folder_faults result ≡ 0)
+            × (folder_misses result ≡ 0) }
     {
         FolderShelf {
             rt,
@@ -47,7 +48,8 @@ pub(crate) fn read_opened<F: Read + Drop>(
     // All bytes that the file has, and not a front of them.
     ensures whole { GivesWhole F.remaining opened result }
     // A file is missing exactly where the cause says that there is none.
-    ensures missing { (result ≡ Err FetchError.Missing) ↔ IsErrAnd opened (λ e. error_kind e ≡ ErrorKind.NotFound) }
+    ensures missing { (result ≡ Err FetchError.Missing) ↔ IsErrAnd opened
+        (λ e. error_kind e ≡ ErrorKind.NotFound) }
 {
     let file = match opened {
         Ok(file) => file,

@@ -72,7 +72,8 @@ impl MemShelf {
     /// Sets a file, as a test needs it: no call is counted. Takes memory for the name and the bytes, and after
     /// [`NoMemory`] all is as before.
     pub fn put(&mut self, alloc: Global, name: &[u8], bytes: &[u8]) -> Result<(), NoMemory>
-        ensures ok { OnOk result (self.new ≡ record self.old { files = map.insert self.old.files name.now bytes.now }) }
+        ensures ok { OnOk result (self.new
+            ≡ record self.old { files = map.insert self.old.files name.now bytes.now }) }
         ensures err { OnErr result (self.new ≡ self.old) }
     {
         self.table.set(alloc, name, bytes)
@@ -119,9 +120,11 @@ impl Shelf for MemShelf {
     fn fetch(&mut self, alloc: Global, name: &[u8]) -> Result<Vec<u8>, FetchError>
         requires { is_file_name name.now ≡ true }
         ensures kept { KeepsFiles (Some self.old.files) (Some self.new.files) }
-        ensures found { IfOk result (λ bytes. HasFile (Some self.old.files) name.now (Some bytes.items)) }
+        ensures found { IfOk result
+            (λ bytes. HasFile (Some self.old.files) name.now (Some bytes.items)) }
         ensures limit { IfOk result (λ bytes. vec_len bytes ≤ file_max) }
-        ensures missing { IsErrOf result FetchError.Missing → HasFile (Some self.old.files) name.now None }
+        ensures missing { IsErrOf result FetchError.Missing
+            → HasFile (Some self.old.files) name.now None }
         ensures faults { FetchFaults result self.old.faults self.new.faults }
         ensures misses { FetchMisses result self.old.misses self.new.misses }
         // It fails where the number of the call says so, and else answers what is there.
@@ -145,7 +148,8 @@ impl Shelf for MemShelf {
         ensures faults { PlaceFaults result self.old.faults self.new.faults }
         ensures misses { self.new.misses ≡ self.old.misses }
         // It fails exactly where the number of the call says so.
-        ensures fails { (result ≡ Err PlaceError.Failed) ↔ Contains self.old.failing self.old.calls }
+        ensures fails { (result ≡ Err PlaceError.Failed)
+            ↔ Contains self.old.failing self.old.calls }
         ensures after { self.new ≡ cabinet_placed self.old result name.now bytes.now }
     {
         if self.count() {

@@ -79,9 +79,11 @@ pub trait Shelf {
     fn fetch(&mut self, alloc: Global, name: &[u8]) -> Result<Vec<u8>, FetchError>
         requires { is_file_name name.now ≡ true }
         ensures kept { KeepsFiles (files self.old) (files self.new) }
-        ensures found { IfOk result (λ bytes. HasFile (files self.old) name.now (Some bytes.items)) }
+        ensures found { IfOk result
+            (λ bytes. HasFile (files self.old) name.now (Some bytes.items)) }
         ensures limit { IfOk result (λ bytes. vec_len bytes ≤ file_max) }
-        ensures missing { IsErrOf result FetchError.Missing → HasFile (files self.old) name.now None }
+        ensures missing { IsErrOf result FetchError.Missing
+            → HasFile (files self.old) name.now None }
         ensures faults { FetchFaults result (faults self.old) (faults self.new) }
         ensures misses { FetchMisses result (misses self.old) (misses self.new) };
 

@@ -58,7 +58,9 @@ fn append_corners(
     hi: &[i32],
 ) -> Result<(), AllocError>
     requires same { length hi.now ≡ length lo.now }
-    ensures out { OnOk result (out.new.items ≡ out.old.items ++ flat_of (map (λ t. front.old.items ++ t) (corners lo.now hi.now))) }
+    ensures out { OnOk result
+        (out.new.items ≡ out.old.items
+        ++ flat_of (map (λ t. front.old.items ++ t) (corners lo.now hi.now))) }
     ensures front { OnOk result (front.new.items ≡ front.old.items) }
 {
     let (Some((low, lows)), Some((high, highs))) = (lo.split_first(), hi.split_first()) else {
@@ -84,9 +86,12 @@ impl Solid {
         requires low { 0 < length lo.now }
         requires high { length lo.now ≤ 6 }
         ensures dim { IfOk result (λ s. s.dim ≡ length lo.now) }
-        ensures rows { IfOk result (λ s. s.rows ≡ evm (length lo.now) (box_cells (length lo.now) lo.now hi.now)) }
-        ensures cells { IfOk result (λ s. cells s.dim s.rows ≡ box_cells (length lo.now) lo.now hi.now) }
-        ensures range { IsErrOf result BoxError.Range ↔ (is_box (length lo.now) lo.now hi.now ≡ false) }
+        ensures rows { IfOk result
+            (λ s. s.rows ≡ evm (length lo.now) (box_cells (length lo.now) lo.now hi.now)) }
+        ensures cells { IfOk result
+            (λ s. cells s.dim s.rows ≡ box_cells (length lo.now) lo.now hi.now) }
+        ensures range { IsErrOf result BoxError.Range
+            ↔ (is_box (length lo.now) lo.now hi.now ≡ false) }
     {
         let dim = lo.len();
         if !is_box(lo, hi) {

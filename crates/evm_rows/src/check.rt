@@ -78,7 +78,8 @@ fn first_outside(flat: &[i32], width: usize) -> Option<usize>
     requires some { 0 < width }
     requires narrow { width ≤ 6 }
     requires whole { length flat.now % width ≡ 0 }
-    ensures { MatchOption result (list_all (is_point width) (rows_of flat.now width 0) ≡ true) (IsFirstOut width (rows_of flat.now width 0)) }
+    ensures { MatchOption result (list_all (is_point width) (rows_of flat.now width 0) ≡ true)
+        (IsFirstOut width (rows_of flat.now width 0)) }
 {
     let mut later = flat;
     let mut number = 0;
@@ -98,7 +99,8 @@ fn first_unordered(flat: &[i32], width: usize) -> Option<usize>
     requires some { 0 < width }
     requires narrow { width ≤ 6 }
     requires whole { length flat.now % width ≡ 0 }
-    ensures { MatchOption result (ascending (rows_of flat.now width 0) ≡ true) (IsFirstFall (rows_of flat.now width 0)) }
+    ensures { MatchOption result (ascending (rows_of flat.now width 0) ≡ true)
+        (IsFirstFall (rows_of flat.now width 0)) }
 {
     if flat.len() == 0 {
         return None;
@@ -124,7 +126,8 @@ fn front_group(flat: &[i32], width: usize, front: usize) -> (&[i32], &[i32])
     requires narrow { width ≤ 6 }
     requires whole { length flat.now % width ≡ 0 }
     requires ascends { ascending (rows_of flat.now width 0) ≡ true }
-    ensures group { IsFrontGroup front (rows_of flat.now width 0) (rows_of result.0.now width 0) (rows_of result.1.now width 0) }
+    ensures group { IsFrontGroup front (rows_of flat.now width 0) (rows_of result.0.now width 0)
+        (rows_of result.1.now width 0) }
     ensures group_whole { length result.0.now % width ≡ 0 }
     ensures whole { length result.1.now % width ≡ 0 }
     ensures shorter { length result.1.now < length flat.now }
@@ -189,7 +192,9 @@ fn has_odd_place(alloc: Global, flat: &[i32], width: usize, skip: usize) -> Resu
     requires left { skip ≤ width }
     requires narrow { width ≤ 6 }
     requires whole { length flat.now % width ≡ 0 }
-    ensures { IfOk result (λ b. MatchBool b (HasOddPlace (rows_of flat.now width skip)) (IsPaired (rows_of flat.now width skip))) }
+    ensures { IfOk result
+        (λ b. MatchBool b (HasOddPlace (rows_of flat.now width skip))
+        (IsPaired (rows_of flat.now width skip))) }
 {
     if skip == width {
         return Ok(flat.len() / width % 2 == 1);
@@ -205,7 +210,9 @@ fn has_odd_line(alloc: Global, flat: &[i32], width: usize, front: usize) -> Resu
     requires narrow { width ≤ 6 }
     requires whole { length flat.now % width ≡ 0 }
     requires ascends { ascending (rows_of flat.now width 0) ≡ true }
-    ensures { IfOk result (λ b. MatchBool b (HasOddLine front (rows_of flat.now width 0)) (IsEvenOn front (rows_of flat.now width 0))) }
+    ensures { IfOk result
+        (λ b. MatchBool b (HasOddLine front (rows_of flat.now width 0))
+        (IsEvenOn front (rows_of flat.now width 0))) }
 {
     let mut rest = flat;
     while rest.len() != 0 {
@@ -224,7 +231,9 @@ fn least_odd_axis(alloc: Global, flat: &[i32], width: usize) -> Result<Option<us
     requires narrow { width ≤ 6 }
     requires whole { length flat.now % width ≡ 0 }
     requires ascends { ascending (rows_of flat.now width 0) ≡ true }
-    ensures { IfOk result (λ o. MatchOption o (IsEven width (rows_of flat.now width 0)) (IsLeastOdd width (rows_of flat.now width 0))) }
+    ensures { IfOk result
+        (λ o. MatchOption o (IsEven width (rows_of flat.now width 0))
+        (IsLeastOdd width (rows_of flat.now width 0))) }
 {
     for front in 0..width {
         if has_odd_line(alloc, flat, width, front)? {
@@ -249,11 +258,14 @@ impl Solid {
         requires whole { length flat.items % dim ≡ 0 }
         ensures ok { IfOk result (λ s. s ≡ record { dim = dim; rows = rows_of flat.items dim 0 }) }
         ensures vertices { IfOk result (λ s. IsVertexList s.dim s.rows) }
-        ensures err { IfErr result (λ e. (e ≡ RowError.NoMemory) ⊎ IsRefusal dim (rows_of flat.items dim 0) e) }
+        ensures err { IfErr result
+            (λ e. (e ≡ RowError.NoMemory) ⊎ IsRefusal dim (rows_of flat.items dim 0) e) }
 
         // A want of memory may stand in place of each other answer.
-        ensures refused { (e : RowError) → IsRefusal dim (rows_of flat.items dim 0) e → IsErrOf result e ⊎ IsErrOf result RowError.NoMemory }
-        ensures accepted { IsVertexList dim (rows_of flat.items dim 0) → IsOk result ⊎ IsErrOf result RowError.NoMemory }
+        ensures refused { (e : RowError) → IsRefusal dim (rows_of flat.items dim 0) e
+            → IsErrOf result e ⊎ IsErrOf result RowError.NoMemory }
+        ensures accepted { IsVertexList dim (rows_of flat.items dim 0)
+            → IsOk result ⊎ IsErrOf result RowError.NoMemory }
     {
         if let Some(row) = first_outside(flat.as_slice(), dim) {
             return Err(RowError::Range(row));

@@ -68,7 +68,8 @@ fn row_order(x: &[i32], y: &[i32]) -> Ordering
 // Appends a row, with the height before it if there is one.
 #[inline(always)]
 fn extend_by_row(out: &mut Vec<i32>, height: Option<i32>, row: &[i32]) -> Result<(), AllocError>
-    ensures { OnOk result (out.new.items ≡ out.old.items ++ flat_of (raised height (row.now ∷ []))) }
+    ensures { OnOk result
+        (out.new.items ≡ out.old.items ++ flat_of (raised height (row.now ∷ []))) }
 {
     if let Some(h) = height {
         out.push(h)?;
@@ -89,7 +90,8 @@ fn extend_by_rows(
     requires left { skip < width }
     requires narrow { width ≤ 6 }
     requires whole { length flat.now % width ≡ 0 }
-    ensures { OnOk result (out.new.items ≡ out.old.items ++ flat_of (raised height (rows_of flat.now width skip))) }
+    ensures { OnOk result
+        (out.new.items ≡ out.old.items ++ flat_of (raised height (rows_of flat.now width skip))) }
 {
     if skip == 0 && height.is_none() {
         out.extend_from_slice(flat)?;
@@ -113,7 +115,8 @@ fn extend_by_merge(
     b: Rows<'_>,
 ) -> Result<(), AllocError>
     requires { (vertices_of a).dim ≡ (vertices_of b).dim }
-    ensures { OnOk result (out.new.items ≡ out.old.items ++ flat_of (raised height (merge_of a.entry b.entry))) }
+    ensures { OnOk result
+        (out.new.items ≡ out.old.items ++ flat_of (raised height (merge_of a.entry b.entry))) }
 {
     let mut left = a.flat;
     let mut right = b.flat;
@@ -162,7 +165,8 @@ fn extend_by_xor(
     b: Rows<'_>,
 ) -> Result<(), AllocError>
     requires { (vertices_of a).dim ≡ (vertices_of b).dim }
-    ensures { OnOk result (out.new.items ≡ out.old.items ++ flat_of (raised height (merge_of a.entry b.entry))) }
+    ensures { OnOk result
+        (out.new.items ≡ out.old.items ++ flat_of (raised height (merge_of a.entry b.entry))) }
 {
     match a.dim() {
         2 => extend_by_merge(out, height, of_dim(2, a), of_dim(2, b)),
@@ -184,7 +188,8 @@ pub fn append_xor(
     b: Rows<'_>,
 ) -> Result<Vec<i32>, NoMemory>
     requires { (vertices_of a).dim ≡ (vertices_of b).dim }
-    ensures { IfOk result (λ v. v.items ≡ out.items ++ flat_of (raised height (xor_of a.entry b.entry))) }
+    ensures { IfOk result
+        (λ v. v.items ≡ out.items ++ flat_of (raised height (xor_of a.entry b.entry))) }
 {
     let mut grown = out;
     // The merge is compiled apart for a height and for none, so that no row asks which it is.
@@ -202,9 +207,18 @@ pub fn append_xor(
 pub fn xor(alloc: Global, a: Rows<'_>, b: Rows<'_>) -> Result<Solid, NoMemory>
     requires { (vertices_of a).dim ≡ (vertices_of b).dim }
     ensures dim { IfOk result (λ s. s.dim ≡ (vertices_of a.entry).dim) }
-    ensures rows { IfOk result (λ s. s.rows ≡ xor_rows (vertices_of a.entry).dim (vertices_of a.entry).rows (vertices_of b.entry).rows) }
-    ensures cells { IfOk result (λ s. cells s.dim s.rows ≡ xor_cells (vertices_of a.entry).dim (cells (vertices_of a.entry).dim (vertices_of a.entry).rows) (cells (vertices_of a.entry).dim (vertices_of b.entry).rows)) }
-    ensures members { IfOk result (λ s. (p : List ℤ) → has s.rows p ≡ xor (has (vertices_of a.entry).rows p) (has (vertices_of b.entry).rows p)) }
+    ensures rows { IfOk result
+        (λ s. s.rows ≡ xor_rows (vertices_of a.entry).dim (vertices_of a.entry).rows
+        (vertices_of b.entry).rows) }
+    ensures cells { IfOk result
+        (λ s. cells s.dim s.rows
+        ≡ xor_cells (vertices_of a.entry).dim
+        (cells (vertices_of a.entry).dim (vertices_of a.entry).rows)
+        (cells (vertices_of a.entry).dim (vertices_of b.entry).rows)) }
+    ensures members { IfOk result
+        (λ s. (p : List ℤ)
+        → has s.rows p ≡ xor (has (vertices_of a.entry).rows p)
+        (has (vertices_of b.entry).rows p)) }
 {
     let room = Solid::empty(alloc, a.dim());
     xor_into(room, a, b)
@@ -217,9 +231,18 @@ pub fn xor(alloc: Global, a: Rows<'_>, b: Rows<'_>) -> Result<Solid, NoMemory>
 pub fn xor_into(old: Solid, a: Rows<'_>, b: Rows<'_>) -> Result<Solid, NoMemory>
     requires { (vertices_of a).dim ≡ (vertices_of b).dim }
     ensures dim { IfOk result (λ s. s.dim ≡ (vertices_of a.entry).dim) }
-    ensures rows { IfOk result (λ s. s.rows ≡ xor_rows (vertices_of a.entry).dim (vertices_of a.entry).rows (vertices_of b.entry).rows) }
-    ensures cells { IfOk result (λ s. cells s.dim s.rows ≡ xor_cells (vertices_of a.entry).dim (cells (vertices_of a.entry).dim (vertices_of a.entry).rows) (cells (vertices_of a.entry).dim (vertices_of b.entry).rows)) }
-    ensures members { IfOk result (λ s. (p : List ℤ) → has s.rows p ≡ xor (has (vertices_of a.entry).rows p) (has (vertices_of b.entry).rows p)) }
+    ensures rows { IfOk result
+        (λ s. s.rows ≡ xor_rows (vertices_of a.entry).dim (vertices_of a.entry).rows
+        (vertices_of b.entry).rows) }
+    ensures cells { IfOk result
+        (λ s. cells s.dim s.rows
+        ≡ xor_cells (vertices_of a.entry).dim
+        (cells (vertices_of a.entry).dim (vertices_of a.entry).rows)
+        (cells (vertices_of a.entry).dim (vertices_of b.entry).rows)) }
+    ensures members { IfOk result
+        (λ s. (p : List ℤ)
+        → has s.rows p ≡ xor (has (vertices_of a.entry).rows p)
+        (has (vertices_of b.entry).rows p)) }
 {
     let mut out = old.into_flat();
     out.clear();

@@ -102,7 +102,8 @@ impl Rows<'_> {
         requires row { row < length (vertices_of self.now).rows }
         requires low { 0 < axis }
         requires high { axis ≤ (vertices_of self.now).dim }
-        ensures { (d : ℤ) → slice_index_or (slice_index_or (vertices_of self.now).rows row []) (axis - 1) d ≡ result }
+        ensures { (d : ℤ) → slice_index_or (slice_index_or (vertices_of self.now).rows row [])
+            (axis - 1) d ≡ result }
     {
         self.flat[row * self.width + self.skip + (axis - 1)]
     }
@@ -193,7 +194,8 @@ impl Solid {
         requires row { row < length self.now.rows }
         requires low { 0 < axis }
         requires high { axis ≤ self.now.dim }
-        ensures { (d : ℤ) → slice_index_or (slice_index_or self.now.rows row []) (axis - 1) d ≡ result }
+        ensures { (d : ℤ) → slice_index_or (slice_index_or self.now.rows row []) (axis - 1) d
+            ≡ result }
     {
         self.rows().coord(row, axis)
     }
@@ -231,7 +233,9 @@ impl Solid {
     /// Whether the two have one dimension and the same rows, and so the same cells.
     pub fn same(&self, other: &Solid) -> bool
         ensures rows { IsTrue result ↔ (self.now ≡ other.now) }
-        ensures cells { IsTrue result ↔ ((self.now.dim ≡ other.now.dim) × (cells self.now.dim self.now.rows ≡ cells other.now.dim other.now.rows)) }
+        ensures cells { IsTrue result
+            ↔ ((self.now.dim ≡ other.now.dim)
+            × (cells self.now.dim self.now.rows ≡ cells other.now.dim other.now.rows)) }
     {
         self.dim == other.dim && self.flat.as_slice() == other.flat.as_slice()
     }

@@ -7,7 +7,7 @@ ghost use Rattle.evm_script.specs.Coordinates.{is_between};
 use super::numbers::{NUMS_MAX, Num, Nums};
 use std::marker::Model;
 
-/// One to twelve numbers that 32 bits hold. It owns them, in place, and takes no other memory.
+/// At most twelve numbers that 32 bits hold. It owns them, in place, and takes no other memory.
 #[derive(Debug, Drop)]
 pub struct Coordinates {
     values: [i32; NUMS_MAX],
@@ -36,7 +36,8 @@ impl Coordinates {
 
 /// A number from `low` to `high`, or `None` exactly where it is not.
 fn narrowed(n: i64, low: i32, high: i32) -> Option<i32>
-    ensures { MatchOption result (is_between low high n ≡ false) (λ x. (is_between low high n ≡ true) × (x ≡ n)) }
+    ensures { MatchOption result (is_between low high n ≡ false)
+        (λ x. (is_between low high n ≡ true) × (x ≡ n)) }
 {
     if i64::from(low) <= n && n <= i64::from(high) {
         Some(n as i32)
@@ -48,7 +49,9 @@ fn narrowed(n: i64, low: i32, high: i32) -> Option<i32>
 /// Numbers from `low` to `high`, with zeros after them, or `None` exactly where one is not.
 fn all_narrowed(numbers: &[i64], low: i32, high: i32) -> Option<[i32; NUMS_MAX]>
     requires { length numbers.now ≤ NUMS_MAX }
-    ensures { MatchOption result (list_all (is_between low high) numbers.now ≡ false) (λ made. (list_all (is_between low high) numbers.now ≡ true) × (take (length numbers.now) made ≡ numbers.now)) }
+    ensures { MatchOption result (list_all (is_between low high) numbers.now ≡ false)
+        (λ made. (list_all (is_between low high) numbers.now ≡ true)
+        × (take (length numbers.now) made ≡ numbers.now)) }
 {
     let mut made = [0i32; NUMS_MAX];
     for (i, n) in numbers.iter().enumerate() {
@@ -63,7 +66,8 @@ fn all_narrowed(numbers: &[i64], low: i32, high: i32) -> Option<[i32; NUMS_MAX]>
 impl Num {
     /// The number, or `None` exactly where it is not from `low` to `high`.
     pub fn between(&self, low: i32, high: i32) -> Option<i32>
-        ensures { MatchOption result (is_between low high self.now ≡ false) (λ x. (is_between low high self.now ≡ true) × (x ≡ self.now)) }
+        ensures { MatchOption result (is_between low high self.now ≡ false)
+            (λ x. (is_between low high self.now ≡ true) × (x ≡ self.now)) }
     {
         narrowed(self.value(), low, high)
     }
@@ -81,7 +85,8 @@ impl Nums {
 
     /// The numbers, or `None` exactly where one is not from `low` to `high`.
     pub fn between(&self, low: i32, high: i32) -> Option<Coordinates>
-        ensures { MatchOption result (list_all (is_between low high) self.now ≡ false) (λ found. (list_all (is_between low high) self.now ≡ true) × (found ≡ self.now)) }
+        ensures { MatchOption result (list_all (is_between low high) self.now ≡ false)
+            (λ found. (list_all (is_between low high) self.now ≡ true) × (found ≡ self.now)) }
     {
         let numbers = self.values();
         match all_narrowed(numbers, low, high) {

@@ -31,7 +31,8 @@ impl Model for FileName {
 impl FileName {
     /// The file name with these bytes, or `None` exactly where they break the rule of file names.
     pub fn of(bytes: &[u8]) -> Option<FileName>
-        ensures { MatchOption result (is_file_name bytes.now ≡ false) (λ name. (is_file_name bytes.now ≡ true) × (name ≡ bytes.now)) }
+        ensures { MatchOption result (is_file_name bytes.now ≡ false)
+            (λ name. (is_file_name bytes.now ≡ true) × (name ≡ bytes.now)) }
     {
         if !is_file_name(bytes) {
             return None;

@@ -24,7 +24,8 @@ pub(crate) fn put_word(text: &mut Vec<u8>, word: &[u8]) -> Result<(), NoMemory>
 
 /// Appends a first word and a name.
 pub(crate) fn put_name(text: &mut Vec<u8>, first: &[u8], name: &Name) -> Result<(), NoMemory>
-    ensures text { OnOk result (text.new.items ≡ text.old.items ++ spaced (first.now ∷ name.now ∷ [])) }
+    ensures text { OnOk result (text.new.items
+        ≡ text.old.items ++ spaced (first.now ∷ name.now ∷ [])) }
     ensures rule { OnOk result (is_name name.now ≡ true) }
 {
     let bytes = name.bytes();
@@ -41,7 +42,8 @@ pub(crate) fn put_name_number(
     name: &Name,
     number: &Num,
 ) -> Result<(), NoMemory>
-    ensures text { OnOk result (text.new.items ≡ text.old.items ++ spaced (first.now ∷ name.now ∷ signed_decimal number.now ∷ [])) }
+    ensures text { OnOk result (text.new.items
+        ≡ text.old.items ++ spaced (first.now ∷ name.now ∷ signed_decimal number.now ∷ [])) }
     ensures rule { OnOk result (is_name name.now ≡ true) }
     ensures range { OnOk result (in_number_range number.now ≡ true) }
 {
@@ -58,7 +60,9 @@ pub(crate) fn put_name_two(
     m: &Num,
     n: &Num,
 ) -> Result<(), NoMemory>
-    ensures text { OnOk result (text.new.items ≡ text.old.items ++ spaced (first.now ∷ name.now ∷ signed_decimal m.now ∷ signed_decimal n.now ∷ [])) }
+    ensures text { OnOk result (text.new.items
+        ≡ text.old.items
+        ++ spaced (first.now ∷ name.now ∷ signed_decimal m.now ∷ signed_decimal n.now ∷ [])) }
     ensures rule { OnOk result (is_name name.now ≡ true) }
     ensures range_m { OnOk result (in_number_range m.now ≡ true) }
     ensures range_n { OnOk result (in_number_range n.now ≡ true) }
@@ -77,7 +81,9 @@ pub(crate) fn put_name_three(
     m: &Num,
     n: &Num,
 ) -> Result<(), NoMemory>
-    ensures text { OnOk result (text.new.items ≡ text.old.items ++ spaced (first.now ∷ name.now ∷ signed_decimal k.now ∷ signed_decimal m.now ∷ signed_decimal n.now ∷ [])) }
+    ensures text { OnOk result (text.new.items
+        ≡ text.old.items
+        ++ spaced (first.now ∷ name.now ∷ signed_decimal k.now ∷ signed_decimal m.now ∷ signed_decimal n.now ∷ [])) }
     ensures rule { OnOk result (is_name name.now ≡ true) }
     ensures range_k { OnOk result (in_number_range k.now ≡ true) }
     ensures range_m { OnOk result (in_number_range m.now ≡ true) }
@@ -95,7 +101,8 @@ pub(crate) fn put_name_numbers(
     name: &Name,
     nums: &Nums,
 ) -> Result<(), NoMemory>
-    ensures text { OnOk result (text.new.items ≡ text.old.items ++ spaced (first.now ∷ name.now ∷ map signed_decimal nums.now)) }
+    ensures text { OnOk result (text.new.items
+        ≡ text.old.items ++ spaced (first.now ∷ name.now ∷ map signed_decimal nums.now)) }
     ensures rule { OnOk result (is_name name.now ≡ true) }
     ensures range { OnOk result (keeps_nums nums.now ≡ true) }
 {
@@ -110,7 +117,8 @@ pub(crate) fn put_two_names(
     a: &Name,
     b: &Name,
 ) -> Result<(), NoMemory>
-    ensures text { OnOk result (text.new.items ≡ text.old.items ++ spaced (first.now ∷ a.now ∷ b.now ∷ [])) }
+    ensures text { OnOk result (text.new.items
+        ≡ text.old.items ++ spaced (first.now ∷ a.now ∷ b.now ∷ [])) }
     ensures rule_a { OnOk result (is_name a.now ≡ true) }
     ensures rule_b { OnOk result (is_name b.now ≡ true) }
 {
@@ -129,7 +137,8 @@ pub(crate) fn put_form_file(
     form: &[u8],
     file: &FileName,
 ) -> Result<(), NoMemory>
-    ensures text { OnOk result (text.new.items ≡ text.old.items ++ spaced (first.now ∷ name.now ∷ form.now ∷ file.now ∷ [])) }
+    ensures text { OnOk result (text.new.items
+        ≡ text.old.items ++ spaced (first.now ∷ name.now ∷ form.now ∷ file.now ∷ [])) }
     ensures rule { OnOk result (is_name name.now ≡ true) }
     ensures file_rule { OnOk result (is_file_name file.now ≡ true) }
 {
@@ -146,7 +155,9 @@ pub(crate) fn put_threshold_file(
     threshold: &Num,
     file: &FileName,
 ) -> Result<(), NoMemory>
-    ensures text { OnOk result (text.new.items ≡ text.old.items ++ spaced (first.now ∷ name.now ∷ form.now ∷ signed_decimal threshold.now ∷ file.now ∷ [])) }
+    ensures text { OnOk result (text.new.items
+        ≡ text.old.items
+        ++ spaced (first.now ∷ name.now ∷ form.now ∷ signed_decimal threshold.now ∷ file.now ∷ [])) }
     ensures rule { OnOk result (is_name name.now ≡ true) }
     ensures range { OnOk result (in_number_range threshold.now ≡ true) }
     ensures file_rule { OnOk result (is_file_name file.now ≡ true) }
@@ -159,7 +170,8 @@ pub(crate) fn put_threshold_file(
 
 /// Appends a first word, a name and a word.
 fn put_name_word(text: &mut Vec<u8>, first: &[u8], name: &Name, word: &[u8]) -> Result<(), NoMemory>
-    ensures text { OnOk result (text.new.items ≡ text.old.items ++ spaced (first.now ∷ name.now ∷ word.now ∷ [])) }
+    ensures text { OnOk result (text.new.items
+        ≡ text.old.items ++ spaced (first.now ∷ name.now ∷ word.now ∷ [])) }
     ensures rule { OnOk result (is_name name.now ≡ true) }
 {
     put_name(text, first, name)?;
@@ -186,7 +198,9 @@ pub(crate) fn put_number_numbers(
     number: &Num,
     nums: &Nums,
 ) -> Result<(), NoMemory>
-    ensures text { OnOk result (text.new.items ≡ text.old.items ++ spaced (first.now ∷ signed_decimal number.now ∷ map signed_decimal nums.now)) }
+    ensures text { OnOk result (text.new.items
+        ≡ text.old.items
+        ++ spaced (first.now ∷ signed_decimal number.now ∷ map signed_decimal nums.now)) }
     ensures range { OnOk result (in_number_range number.now ≡ true) }
     ensures ranges { OnOk result (keeps_nums nums.now ≡ true) }
 {
@@ -196,7 +210,8 @@ pub(crate) fn put_number_numbers(
 
 /// Appends a first word and a number.
 fn put_first_number(text: &mut Vec<u8>, first: &[u8], number: &Num) -> Result<(), NoMemory>
-    ensures text { OnOk result (text.new.items ≡ text.old.items ++ spaced (first.now ∷ signed_decimal number.now ∷ [])) }
+    ensures text { OnOk result (text.new.items
+        ≡ text.old.items ++ spaced (first.now ∷ signed_decimal number.now ∷ [])) }
     ensures range { OnOk result (in_number_range number.now ≡ true) }
 {
     let value = number.value();
@@ -214,7 +229,8 @@ fn put_number(text: &mut Vec<u8>, number: i64) -> Result<(), NoMemory>
 /// Appends each number with a space before it.
 #[tactic(auto, using(crate::proofs::Spaced::numbers_more))]
 fn put_numbers(text: &mut Vec<u8>, nums: &Nums) -> Result<(), NoMemory>
-    ensures text { OnOk result (text.new.items ≡ text.old.items ++ flat_map (λ n. 32 ∷ signed_decimal n) nums.now) }
+    ensures text { OnOk result (text.new.items ≡ text.old.items ++ flat_map
+        (λ n. 32 ∷ signed_decimal n) nums.now) }
     ensures range { OnOk result (keeps_nums nums.now ≡ true) }
 {
     for value in nums.values() {

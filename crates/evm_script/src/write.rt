@@ -89,7 +89,8 @@ fn put_load(
     form: &LoadForm,
     file: &FileName,
 ) -> Result<(), NoMemory>
-    ensures text { OnOk result (text.new.items ≡ text.old.items ++ spaced (codes "load" ∷ name.now ∷ load_words form.now file.now)) }
+    ensures text { OnOk result (text.new.items
+        ≡ text.old.items ++ spaced (codes "load" ∷ name.now ∷ load_words form.now file.now)) }
     ensures rule { OnOk result (is_name name.now ≡ true) }
     ensures form_rule { OnOk result (FormKeepsRules form.now) }
     ensures file_rule { OnOk result (is_file_name file.now ≡ true) }
@@ -113,7 +114,8 @@ fn put_save(
     form: &SaveForm,
     file: &FileName,
 ) -> Result<(), NoMemory>
-    ensures text { OnOk result (text.new.items ≡ text.old.items ++ spaced (codes "save" ∷ name.now ∷ save_words form.now file.now)) }
+    ensures text { OnOk result (text.new.items
+        ≡ text.old.items ++ spaced (codes "save" ∷ name.now ∷ save_words form.now file.now)) }
     ensures rule { OnOk result (is_name name.now ≡ true) }
     ensures file_rule { OnOk result (is_file_name file.now ≡ true) }
 {
@@ -125,7 +127,8 @@ fn put_save(
 /// Appends the text of a definition.
 #[tactic(auto, using(crate::proofs::Spaced::spaced_formula))]
 fn put_definition(text: &mut Vec<u8>, name: &Name, formula: &Formula) -> Result<(), NoMemory>
-    ensures text { OnOk result (text.new.items ≡ text.old.items ++ spaced (codes "def" ∷ name.now ∷ formula_words formula.now)) }
+    ensures text { OnOk result (text.new.items
+        ≡ text.old.items ++ spaced (codes "def" ∷ name.now ∷ formula_words formula.now)) }
     ensures rule { OnOk result (is_name name.now ≡ true) }
     ensures rules { OnOk result (FormulaKeepsRules formula.now) }
 {
@@ -136,7 +139,8 @@ fn put_definition(text: &mut Vec<u8>, name: &Name, formula: &Formula) -> Result<
 
 /// Appends the words of a formula, whose names and numbers keep their rules.
 fn put_formula(text: &mut Vec<u8>, formula: &Formula) -> Result<(), NoMemory>
-    ensures text { OnOk result (text.new.items ≡ text.old.items ++ spaced (formula_words formula.now)) }
+    ensures text { OnOk result (text.new.items
+        ≡ text.old.items ++ spaced (formula_words formula.now)) }
     ensures rules { OnOk result (FormulaKeepsRules formula.now) }
 {
     match formula {
@@ -160,6 +164,7 @@ fn put_formula(text: &mut Vec<u8>, formula: &Formula) -> Result<(), NoMemory>
 /// are read as this formula.
 pub fn printed_lines_are_read_again()
     ensures again { (c : commands.Command) → KeepsRules c → IsReadAgain c }
-    ensures told_apart { (c d : commands.Command) → KeepsRules c → KeepsRules d → printed c ≡ printed d → c ≡ d }
+    ensures told_apart { (c d : commands.Command) → KeepsRules c → KeepsRules d
+        → printed c ≡ printed d → c ≡ d }
     ensures formulas { (f : formulas.Formula) → FormulaKeepsRules f → IsFormulaAgain f }
 {}

@@ -190,8 +190,10 @@ pub fn changed(room: Vec<i32>, line: &[i32], change: Rows<'_>) -> Result<LineAft
     requires line { AreRows line.now 1 0 }
     requires change { (vertices_of change).dim ≡ 1 }
     ensures are_rows { IfOk result (λ p. AreRows p.line.items 1 0) }
-    ensures rows { IfOk result (λ p. rows_of p.line.items 1 0 ≡ changed_line line.now change.entry) }
-    ensures across { IfOk result (λ p. p.across ≡ content (cells 1 (vertices_of change.entry).rows)) }
+    ensures rows { IfOk result
+        (λ p. rows_of p.line.items 1 0 ≡ changed_line line.now change.entry) }
+    ensures across { IfOk result
+        (λ p. p.across ≡ content (cells 1 (vertices_of change.entry).rows)) }
     ensures shared { IfOk result (λ p. p.shared ≡ shared_length line.now change.entry) }
 {
     let mut c = Line::of_rows(change);

@@ -47,7 +47,8 @@ impl<'a> Sweep<'a> {
     pub fn start(alloc: Global, a: Rows<'a>) -> Sweep<'a>
         requires { 1 < (vertices_of a).dim }
         ensures dim { result.dim + 1 ≡ (vertices_of a.entry).dim }
-        ensures slabs { result.left ≡ slabs_in result.dim (cells (vertices_of a.entry).dim (vertices_of a.entry).rows) }
+        ensures slabs { result.left
+            ≡ slabs_in result.dim (cells (vertices_of a.entry).dim (vertices_of a.entry).rows) }
         ensures section { result.section ≡ [] }
     {
         let dim = a.dim() - 1;
@@ -65,8 +66,12 @@ impl<'a> Sweep<'a> {
     /// leaves the sweep as it was.
     pub fn advance(&mut self, alloc: Global) -> Result<Option<Slab>, NoMemory>
         ensures dim { self.new.dim ≡ self.old.dim }
-        ensures some { IfOk result (λ o. IfSome o (λ s. self.old.left ≡ (s.low, (s.high, self.new.section)) ∷ self.new.left)) }
-        ensures none { IfOk result (λ o. IfNone o ((self.old.left ≡ []) × ((self.new.left ≡ []) × (self.new.section ≡ [])))) }
+        ensures some { IfOk result
+            (λ o. IfSome o (λ s. self.old.left
+            ≡ (s.low, (s.high, self.new.section)) ∷ self.new.left)) }
+        ensures none { IfOk result
+            (λ o. IfNone o ((self.old.left ≡ [])
+            × ((self.new.left ≡ []) × (self.new.section ≡ [])))) }
         ensures ends { IfOk result (λ o. IsNone o ↔ (self.old.left ≡ [])) }
         ensures err { IfErr result (λ _. self.new ≡ self.old) }
     {

@@ -35,7 +35,8 @@ impl<'a> Walk<'a> {
     pub fn of(a: Rows<'a>) -> Walk<'a>
         requires { 1 < (vertices_of a).dim }
         ensures dim { result.dim + 1 ≡ (vertices_of a.entry).dim }
-        ensures couplets { result.left ≡ couplets_in result.dim (cells (vertices_of a.entry).dim (vertices_of a.entry).rows) }
+        ensures couplets { result.left
+            ≡ couplets_in result.dim (cells (vertices_of a.entry).dim (vertices_of a.entry).rows) }
         ensures left { result.left ≡ couplets_of (vertices_of a.entry).rows }
     {
         Walk {
@@ -71,7 +72,8 @@ impl<'a> Walk<'a> {
     /// the view, read from the second axis on: nothing is copied, and no memory is taken.
     pub fn next_couplet(&mut self) -> Option<(i32, Rows<'a>)>
         ensures dim { self.new.dim ≡ self.old.dim }
-        ensures some { IfSome result (λ p. self.old.left ≡ (p.0, (vertices_of p.1).rows) ∷ self.new.left) }
+        ensures some { IfSome result
+            (λ p. self.old.left ≡ (p.0, (vertices_of p.1).rows) ∷ self.new.left) }
         ensures same { IfSome result (λ p. (vertices_of p.1).dim ≡ self.old.dim) }
         ensures none { IfNone result (self.old.left ≡ []) }
         ensures ends { IsNone result ↔ (self.old.left ≡ []) }
@@ -98,7 +100,9 @@ fn first_stretch(flat: &[i32], width: usize, skip: usize) -> (i32, &[i32], &[i32
     requires narrow { width ≤ 6 }
     requires whole { length flat.now % width ≡ 0 }
     requires ascending { IsTrue (ascends (rows_of flat.now width skip)) }
-    ensures couplets { couplets_of (rows_of flat.now width skip) ≡ (result.0, rows_of result.1.now width (skip + 1)) ∷ couplets_of (rows_of result.2.now width skip) }
+    ensures couplets { couplets_of (rows_of flat.now width skip)
+        ≡ (result.0, rows_of result.1.now width (skip + 1)) ∷ couplets_of
+        (rows_of result.2.now width skip) }
     ensures stretch_whole { length result.1.now % width ≡ 0 }
     ensures whole { length result.2.now % width ≡ 0 }
     ensures ascending { IsTrue (ascends (rows_of result.2.now width skip)) }

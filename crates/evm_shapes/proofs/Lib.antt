@@ -3,5 +3,7 @@ pub mod MoveSteps
 pub mod Shaped
 pub mod Sliced
 pub mod Shifted
+pub mod Lone
 pub mod Clipped
+pub mod Missed
 pub mod United

@@ -1,9 +1,8 @@
 -- How a row is moved in a flat list.
-use Rattle.std.proofs.Common.{◌≡◌, ℕ, zero, suc, ◌+◌, ◌-◌, ◌<◌, ◌≤◌, ◌%◌, true, List, [], ◌∷◌, ◌++◌, length, take, drop, get_or, set, map, ℤ, pos, neg_ℤ, ◌-ℤ◌, ◌≤ℤ◌, refl, sym, ap, ap₂, ◌∙◌, arith, add-one, append_assoc, append-nil, FitsSigned, w32, length-append}
+use Rattle.std.proofs.Common.{◌≡◌, ℕ, zero, suc, ◌+◌, ◌-◌, ◌<◌, ◌≤◌, true, List, [], ◌∷◌, ◌++◌, length, take, drop, get_or, set, map, ℤ, pos, neg_ℤ, ◌-ℤ◌, refl, sym, ap, ap₂, ◌∙◌, arith, add-one, append_assoc, append-nil, FitsSigned, w32, length-append}
 use Rattle.std.specs.Prelude.{swap}
-use Rattle.std.specs.List.{list_all}
 use Rattle.std.proofs.lemmas.Int.{ints as int_facts}
-use Rattle.std.proofs.lemmas.List.{take_rest, get_or-append-add, set-append_right, length-set}
+use Rattle.std.proofs.lemmas.List.{take_rest, get_or-append-add, set-append_right}
 use Rattle.std.proofs.lemmas.List.Edits.{swap_is}
 use Rattle.evm_cells.specs.Places.{without, with_at}
 use Rattle.evm_cells.specs.Limits.{is_point, is_point_coord}
@@ -11,7 +10,7 @@ use Rattle.evm_cells.specs.Shapes.{negated, fronted}
 use Rattle.evm_cells.proofs.Coords.{point_is, limit-small}
 use Rattle.evm_cells.proofs.Universe.{point_parts}
 use Rattle.evm_cells.proofs.Slices.{all-coord}
-use Rattle.evm_rows.specs.Rows.{rows_of, flat_of}
+use Rattle.evm_rows.specs.Rows.{flat_of}
 
 pub fits_negated : (n i : ℕ) (row : List ℤ) → is_point n row ≡ true → i < n → FitsSigned w32 (pos 0 -ℤ get_or row i (pos 0))
 fits_negated n i row h l =

@@ -1,20 +1,18 @@
 -- What rows that were moved and put in order are on cells.
-use Rattle.std.proofs.Common.{◌≡◌, ℕ, zero, suc, ◌+◌, ◌-◌, ◌<◌, ◌≤◌, ◌%◌, Bool, true, false, ◌&&◌, ◌||◌, ◌==◌, List, [], ◌∷◌, ◌++◌, length, get_or, map, filter, count_by, ℤ, pos, int_le, int_eq, int_lt, refl, sym, ap, ap₂, ◌∙◌, subst, arith, eq-eqb}
+use Rattle.std.proofs.Common.{◌≡◌, ℕ, zero, suc, ◌-◌, ◌<◌, ◌≤◌, ◌%◌, List, [], ◌∷◌, length, map, count_by, ℤ, int_eq, sym, ap, ap₂, ◌∙◌, subst, arith}
 use Rattle.std.specs.Prelude.{swap}
-use Rattle.std.specs.List.{list_all}
 use Rattle.std.proofs.lemmas.List.Edits.{length-swap}
-use Rattle.evm_cells.specs.Places.{same, each, has, without, with_at}
-use Rattle.evm_cells.specs.Limits.{is_point, is_point_coord, IsCellSet}
-use Rattle.evm_cells.specs.Booleans.{xor}
+use Rattle.evm_cells.specs.Places.{same, has}
+use Rattle.evm_cells.specs.Limits.{is_point, IsCellSet}
 use Rattle.evm_cells.specs.Vertices.{odd, evm, cells, IsVertexList}
 use Rattle.evm_cells.specs.Shapes.{mirror, negated, swap_axes, front, fronted, unfronted}
-use Rattle.evm_cells.proofs.Xor.{xsum, xsum-same_on, odd-count}
+use Rattle.evm_cells.proofs.Xor.{xsum-same_on, odd-count}
 use Rattle.evm_cells.proofs.Sum.{xsum-map}
 use Rattle.evm_cells.proofs.Universe.{point_parts, xsum-same_place, cell_set-cells}
 use Rattle.evm_cells.proofs.Core.{evm-cells, cells-evm, vertices-evm, length-without}
 use Rattle.evm_cells.proofs.Slices.{length-with_at}
 use Rattle.evm_cells.proofs.Moves.{by_place, has-mirror, cell_set-mirror, length-negated, same-negated, has-swap, cell_set-swap, each-swap}
-use Rattle.evm_cells.proofs.Lifts.{has-front, cell_set-front, each-fronted, length-unfronted}
+use Rattle.evm_cells.proofs.Lifts.{has-front, cell_set-front, each-fronted}
 use Rattle.evm_rows.specs.Rows.{AreRows, rows_of, flat_of}
 use Rattle.evm_rows.proofs.RowsOrder.{Wide, rows_of-flat_of, length-flat_of}
 use Rattle.evm_rows.proofs.Bridge.{wide-points}
@@ -22,7 +20,7 @@ use native.Mathlib.Nat.{mul-mod_left}
 use Rattle.evm_shapes.specs.declared.moves.Move.{Move}
 use Rattle.evm_shapes.specs.declared.moves.Move.TheVariants.{Mirror, Swap, Front, Raise}
 use Rattle.evm_shapes.specs.Moves.{moved, moved_dim, IsMoveOf}
-use Rattle.evm_shapes.specs.Order.{IsReduced}
+use Rattle.evm_cells.specs.Windows.{IsReduced}
 
 -- ---- rows of one length
 

@@ -1,15 +1,15 @@
 -- Rows that are shifted.
-use Rattle.std.proofs.Common.{◌≡◌, ℕ, zero, suc, ◌+◌, ◌-◌, ◌*◌, ◌<◌, ◌≤◌, ◌%◌, Bool, true, false, ◌&&◌, ◌==◌, List, [], ◌∷◌, ◌++◌, length, drop, get_or, map, ℤ, pos, neg_ℤ, ◌+ℤ◌, ◌-ℤ◌, ◌≤ℤ◌, ◌<ℤ◌, int_le, refl, sym, ap, ap₂, ◌∙◌, arith, add-one, append_assoc, append-nil, eqb-true, eq-eqb, w32, w64, to_z, of_z}
+use Rattle.std.proofs.Common.{◌≡◌, ℕ, zero, suc, ◌+◌, ◌*◌, ◌<◌, ◌≤◌, ◌%◌, Bool, true, false, ◌&&◌, ◌==◌, List, [], ◌∷◌, ◌++◌, length, drop, get_or, map, ℤ, pos, neg_ℤ, ◌+ℤ◌, ◌-ℤ◌, ◌≤ℤ◌, ◌<ℤ◌, int_le, refl, sym, ap, ap₂, ◌∙◌, arith, append_assoc, append-nil, eqb-true, eq-eqb, w32, w64, to_z, of_z}
 use Rattle.std.specs.List.{list_all}
 use mir.Val.{SFits}
 use Rattle.std.proofs.lemmas.Int.{ints as int_facts, to_z-of_z}
 use Rattle.std.proofs.lemmas.List.{drop_more}
-use Rattle.evm_cells.specs.Limits.{is_point, is_point_coord, limit, IsCellSet}
-use Rattle.evm_cells.specs.Vertices.{evm, cells, IsVertexList}
-use Rattle.evm_cells.specs.Shapes.{added, is_shift, shift, shift_fits}
-use Rattle.evm_cells.proofs.Xor.{and_first, and_second, and_both, and-false}
-use Rattle.evm_cells.proofs.Coords.{le_is, le_yes, le_no, point_is, point_yes, limit-small}
-use Rattle.evm_cells.proofs.Universe.{point_parts, point_from}
+use Rattle.evm_cells.specs.Limits.{is_point, is_point_coord, limit}
+use Rattle.evm_cells.specs.Vertices.{IsVertexList}
+use Rattle.evm_cells.specs.Shapes.{added, is_shift}
+use Rattle.evm_cells.proofs.Xor.{and_first, and_second, and-false}
+use Rattle.evm_cells.proofs.Coords.{le_is, le_no, point_is, limit-small}
+use Rattle.evm_cells.proofs.Universe.{point_parts}
 use Rattle.evm_cells.proofs.Slices.{all-coord}
 use Rattle.evm_cells.proofs.Moves.{length-added}
 use Rattle.evm_rows.specs.Rows.{rows_of, flat_of}

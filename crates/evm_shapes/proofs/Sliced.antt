@@ -1,16 +1,15 @@
 -- What rows that lost or gained an axis are on cells.
-use Rattle.std.proofs.Common.{◌≡◌, ℕ, zero, suc, ◌+◌, ◌-◌, ◌<◌, ◌≤◌, ◌%◌, Bool, true, false, cond, ◌&&◌, ◌||◌, ◌==◌, List, [], ◌∷◌, ◌++◌, length, take, drop, get_or, map, filter, count_by, ℤ, pos, neg_ℤ, ◌≤ℤ◌, ◌<ℤ◌, int_le, int_eq, int_lt, refl, sym, ap, ap₂, ◌∙◌, subst, arith, add-one, append_assoc, append-nil}
+use Rattle.std.proofs.Common.{◌≡◌, ℕ, suc, ◌+◌, ◌-◌, ◌<◌, ◌≤◌, ◌%◌, Bool, true, false, cond, ◌&&◌, List, [], ◌∷◌, ◌++◌, length, take, drop, map, filter, ℤ, pos, neg_ℤ, ◌≤ℤ◌, ◌<ℤ◌, int_le, int_eq, refl, sym, ap, ap₂, ◌∙◌, subst, arith, add-one, append_assoc, append-nil}
 use Rattle.std.specs.List.{list_all}
-use Rattle.std.proofs.lemmas.Bool.{true≢false}
 use Rattle.std.proofs.lemmas.Int.{ints as int_facts}
 use Rattle.std.proofs.lemmas.List.{take_rest}
-use Rattle.evm_cells.specs.Places.{same, each, has, without, with_at}
+use Rattle.evm_cells.specs.Places.{same, has, without, with_at}
 use Rattle.evm_cells.specs.Limits.{is_point, is_point_coord, limit, IsCellSet}
 use Rattle.evm_cells.specs.Booleans.{xor}
-use Rattle.evm_cells.specs.Vertices.{odd, evm, cells, IsVertexList}
+use Rattle.evm_cells.specs.Vertices.{evm, cells, IsVertexList}
 use Rattle.evm_cells.specs.Sections.{slice}
 use Rattle.evm_cells.specs.Shapes.{lift_fits, lift}
-use Rattle.evm_cells.proofs.Xor.{xsum, xsum-same, xsum-same_on, odd-count, xor-and, or-xor, and_first, and_second}
+use Rattle.evm_cells.proofs.Xor.{xsum, xsum-same_on, odd-count, xor-and, or-xor, and_first, and_second}
 use Rattle.evm_cells.proofs.Order.{refuted}
 use Rattle.evm_cells.proofs.Sum.{xsum-map, xsum-filter, xsum-append, xsum-and_left}
 use Rattle.evm_cells.proofs.Coords.{eq_sym, eq_is, lt_yes, point_yes}
@@ -26,8 +25,8 @@ use Rattle.evm_rows.proofs.Bridge.{wide-points}
 use Rattle.evm_rows.proofs.BoxTests.{flat_of-append}
 use native.Mathlib.Nat.{mul-mod_left}
 use Rattle.evm_shapes.specs.declared.moves.Move.TheVariants.{Raise}
-use Rattle.evm_shapes.specs.Moves.{moved, up_to}
-use Rattle.evm_shapes.specs.Order.{IsReduced}
+use Rattle.evm_shapes.specs.Moves.{up_to}
+use Rattle.evm_cells.specs.Windows.{IsReduced}
 use Rattle.evm_shapes.proofs.MoveSteps.{without_parts}
 use Rattle.evm_shapes.proofs.Shaped.{wide-moved}
 

@@ -1,26 +1,25 @@
 -- Rows in order, and what is left of them where equal rows cancel.
-use Rattle.std.proofs.Common.{◌≡◌, ℕ, zero, suc, ◌+◌, ◌-◌, ◌<◌, ◌≤◌, ◌%◌, Bool, true, false, not, cond, ◌&&◌, ◌||◌, ◌==◌, ◌<ℤ◌, List, [], ◌∷◌, ◌++◌, length, take, drop, get_or, map, count_by, sum_by, ℤ, int_eq, int_lt, refl, sym, ap, ap₂, ◌∙◌, subst, arith, ⊎_elim, append_assoc, append-nil, eq-eqb, eqb-true, zero-add}
-use Rattle.std.specs.Prelude.{if◌then◌else◌}
+use Rattle.std.proofs.Common.{◌≡◌, ℕ, zero, suc, ◌+◌, ◌-◌, ◌<◌, ◌≤◌, ◌%◌, Bool, true, false, not, cond, ◌==◌, List, [], ◌∷◌, ◌++◌, length, drop, get_or, count_by, sum_by, ℤ, refl, sym, ap, ap₂, ◌∙◌, subst, arith, ⊎_elim, append_assoc, append-nil, eq-eqb, eqb-true, zero-add}
 use Rattle.std.specs.List.{list_all}
 use Rattle.std.specs.List.Sorted.{IsPermutation}
-use Rattle.std.proofs.lemmas.List.{drop_more, map-append}
+use Rattle.std.proofs.lemmas.List.{drop_more}
 use Rattle.std.proofs.lemmas.List.Sums.{sum_by-cons}
 use Rattle.std.proofs.lemmas.List.Sorted.{IsPermutation-map, sum_by-IsPermutation}
-use Rattle.std.proofs.lemmas.Bool.{cases_lt, or_cases, or_left, or_right, false≢true, true≢false}
+use Rattle.std.proofs.lemmas.Bool.{cases_lt, true≢false}
 use denote.Ref.{Bor}
 use Rattle.evm_cells.specs.Places.{same, before, ascending, has}
 use Rattle.evm_cells.specs.Booleans.{xor}
 use Rattle.evm_cells.specs.Vertices.{odd}
-use Rattle.evm_cells.proofs.Xor.{xsum, xsum-cons, odd-count, and_first, and_second, and_both, false-xor, xor_self, xor_assoc}
+use Rattle.evm_cells.proofs.Xor.{xsum, xsum-cons, odd-count, and_first, and_second, and_both}
 use Rattle.evm_cells.proofs.Places.{strict_places}
 use Rattle.evm_cells.proofs.Universe.{xsum-same_place}
-use Rattle.evm_rows.specs.Rows.{rows_of, flat_of, ascends}
-use Rattle.evm_rows.proofs.RowsLaws.{rows_of-none}
-use Rattle.evm_rows.proofs.RowsOrder.{Wide, rows_of-flat_of, rows_of-wide, length-flat_of}
+use Rattle.evm_rows.specs.Rows.{rows_of, flat_of}
+use Rattle.evm_rows.proofs.RowsOrder.{Wide, rows_of-flat_of, length-flat_of}
 use Rattle.evm_rows.specs.Groups.{reaches, steady, targets}
 use Rattle.evm_rows.proofs.Pairs.{before_trans, earlier_of, not_true, pair_cancels, count_sorted, two_ahead, targets_push}
 use native.Mathlib.Nat.{mul-mod_left}
-use Rattle.evm_shapes.specs.Order.{starts_pair, unpaired, IsReduced}
+use Rattle.evm_shapes.specs.Order.{starts_pair, unpaired}
+use Rattle.evm_cells.specs.Windows.{IsReduced}
 
 -- rows that all pass, by the number of those that do not
 misses : (p : List ℤ → Bool) (S : List (List ℤ)) → list_all p S ≡ true → sum_by (λ (s : List ℤ). cond (p s) 0 1) S ≡ 0

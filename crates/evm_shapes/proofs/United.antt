@@ -1,7 +1,7 @@
 -- Unions of sections, and the projection.
-use Rattle.std.proofs.Common.{◌≡◌, ℕ, zero, suc, ◌+◌, ◌-◌, ◌*◌, ◌%◌, ◌<◌, ◌≤◌, Bool, true, false, cond, ◌&&◌, ◌||◌, List, [], ◌∷◌, ◌++◌, length, take, drop, map, filter, ℤ, pos, ◌-ℤ◌, ◌<ℤ◌, ◌≤ℤ◌, int_le, int_lt, int_eq, refl, sym, ap, ap₂, ◌∙◌, subst, arith, ⊎_elim, zero-add}
+use Rattle.std.proofs.Common.{◌≡◌, ℕ, zero, suc, ◌+◌, ◌-◌, ◌*◌, ◌%◌, ◌<◌, ◌≤◌, Bool, true, false, ◌&&◌, ◌||◌, List, [], ◌∷◌, ◌++◌, length, take, drop, filter, ℤ, ◌≤ℤ◌, int_le, int_lt, int_eq, refl, sym, ap, ap₂, ◌∙◌, subst, arith, ⊎_elim, zero-add}
 use Rattle.std.specs.Prelude.{Option, Some, None, IfSome, IfNone, is_some}
-use Rattle.std.specs.List.{list_any, list_all}
+use Rattle.std.specs.List.{list_any}
 use Rattle.std.proofs.lemmas.Bool.{true≢false, false≢true, or_cases, or_left, or_right, cases_Bool}
 use Rattle.std.proofs.lemmas.Int.{ints as int_facts, by_lt_z}
 use Rattle.std.proofs.lemmas.List.{map-append, take_all}
@@ -11,21 +11,20 @@ use Rattle.evm_cells.specs.Booleans.{combine, or_cells}
 use Rattle.evm_cells.specs.Vertices.{evm, cells, IsVertexList}
 use Rattle.evm_cells.specs.Sections.{slice}
 use Rattle.evm_cells.specs.Shapes.{proj, front}
-use Rattle.evm_cells.proofs.Xor.{xsum-nil, and-false, and_first, and_second, and_both}
+use Rattle.evm_cells.proofs.Xor.{xsum-nil, and-false, and_second, and_both}
 use Rattle.evm_cells.proofs.Order.{same_tests}
-use Rattle.evm_cells.proofs.Lists.{any-append, any_same}
-use Rattle.evm_cells.proofs.Coords.{lt_is, lt_yes, eq_is, eq_yes, any-cell_coords, cell_is}
-use Rattle.evm_cells.proofs.Places.{has-any}
+use Rattle.evm_cells.proofs.Lists.{any-append}
+use Rattle.evm_cells.proofs.Coords.{lt_yes, eq_is, eq_yes, any-cell_coords, cell_is}
 use Rattle.evm_cells.proofs.Universe.{has-cells, has-cells_of, cell_set-cells, cells_are, same_sets, member_passes}
 use Rattle.evm_cells.proofs.Combine.{cell_set-filter, cell_set-combine, has-combine}
 use Rattle.evm_cells.proofs.Core.{cells-evm, evm-cells, vertices-evm}
 use Rattle.evm_cells.proofs.Slices.{has-slice_of, cell_set-slice, cell_of_with_at}
 use Rattle.evm_cells.proofs.Layers.{evm-empty}
-use Rattle.evm_cells.proofs.Lifts.{proj_of_sections, proj_of_front, cell_set-front, cell_set-proj}
+use Rattle.evm_cells.proofs.Lifts.{proj_of_sections, proj_of_front, cell_set-front}
 use Rattle.evm_rows.specs.Rows.{Vertices, xor_rows, rows_of}
 use Rattle.evm_rows.proofs.RowsPlaces.{length-rows_of}
 use Rattle.evm_sections.specs.Couplets.{couplets_of, put_row, rise_above, slabs_in, slabs_above, slabs_left}
-use Rattle.evm_sections.proofs.Sections.{Above, starts, stays, waits, steps, ends, slabs_are, bottom, bottom_is, low_outside, outside}
+use Rattle.evm_sections.proofs.Sections.{Above, starts, waits, steps, ends, slabs_are, bottom, bottom_is}
 use Rattle.evm_boolean.specs.Tower.{or_vertices}
 use Rattle.evm_shapes.specs.Unions.{united, sections_of}
 

@@ -1,7 +1,8 @@
 -- Moves of a row, and rows up to a height. Axes are counted from 0.
-use Rattle.std.specs.Prelude.{ℕ, ◌+◌, ◌<◌, ◌≤◌, ℤ, pos, int_le, List, map, filter, get_or, swap}
-use Rattle.evm_cells.specs.Places.{without, with_at}
+use Rattle.std.specs.Prelude.{ℕ, ◌+◌, ◌<◌, ◌≤◌, Bool, ℤ, pos, int_le, List, map, filter, get_or, swap}
+use Rattle.evm_cells.specs.Places.{same, without, with_at}
 use Rattle.evm_cells.specs.Shapes.{negated, fronted}
+use Rattle.evm_cells.specs.Windows.{clamped}
 use Rattle.evm_shapes.specs.declared.moves.Move.{Move}
 use Rattle.evm_shapes.specs.declared.moves.Move.TheVariants.{Mirror, Swap, Front, Raise}
 
@@ -29,3 +30,7 @@ IsMoveOf n (Raise i h) = i ≤ n
 -- the rows up to the height k on an axis, without their number there
 abbrev pub up_to : ℕ → ℤ → List (List ℤ) → List (List ℤ)
 up_to i k V = map (without i) (filter (λ q. int_le (get_or q i (pos 0)) k) V)
+
+-- a row that is moved into the box from lo to hi stays where it is
+abbrev pub stays_in : List ℤ → List ℤ → List ℤ → Bool
+stays_in lo hi p = same (clamped lo hi p) p

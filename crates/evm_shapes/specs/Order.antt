@@ -1,7 +1,7 @@
 -- Rows in any order, and those of them that are left where equal rows cancel in pairs.
 use Rattle.std.specs.Prelude.{◌≡◌, ℕ, Bool, true, false, ◌==◌, ℤ, List, [], ◌∷◌, length, count_by, if◌then◌else◌}
 use Rattle.std.specs.List.{list_all}
-use Rattle.evm_cells.specs.Places.{same, ascending, has}
+use Rattle.evm_cells.specs.Places.{same}
 use Rattle.evm_cells.specs.Vertices.{odd}
 
 -- the first two rows are there, and equal
@@ -16,8 +16,7 @@ unpaired [] = []
 unpaired (x ∷ []) = x ∷ []
 unpaired (x ∷ y ∷ r) = if same x y then unpaired r else x ∷ unpaired (y ∷ r)
 
--- W has, ascending, the rows that occur an odd number of times in L; each has n numbers
-pub record IsReduced (n : ℕ) (L W : List (List ℤ)) : Type 0 where
-  pub ascends : ascending W ≡ true
+-- W has the rows of L where pairs of equal rows cancel, in some order; each has n numbers
+pub record AreLone (n : ℕ) (L W : List (List ℤ)) : Type 0 where
   pub wide : list_all (λ p. length p == n) W ≡ true
-  pub odd_times : (p : List ℤ) → has W p ≡ odd (count_by (λ q. same q p) L)
+  pub odd_times : (p : List ℤ) → odd (count_by (λ q. same q p) W) ≡ odd (count_by (λ q. same q p) L)

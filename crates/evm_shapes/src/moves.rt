@@ -95,7 +95,8 @@ pub(crate) fn append_all_moved(
     step: Move,
 ) -> Result<(), AllocError>
     requires axes { IsMoveOf (vertices_of a).dim step }
-    ensures { OnOk result (out.new.items ≡ out.old.items ++ flat_of (map (moved step) (vertices_of a.entry).rows)) }
+    ensures { OnOk result
+        (out.new.items ≡ out.old.items ++ flat_of (map (moved step) (vertices_of a.entry).rows)) }
 {
     let mut left = a.flat;
     while left.len() != 0 {

@@ -2,23 +2,30 @@
 ghost use Rattle.std.specs.Prelude.{◌≡◌, ◌%◌, ◌<◌, ◌≤◌, ◌++◌, length, drop, IfOk, OnOk};
 ghost use Rattle.evm_rows.specs.Rows.{rows_of, flat_of};
 ghost use Rattle.evm_rows.specs.Groups.{targets};
-ghost use Rattle.evm_shapes.specs.Order.{starts_pair, unpaired, IsReduced};
+ghost use Rattle.evm_cells.specs.Windows.{IsReduced};
+ghost use Rattle.evm_shapes.specs.Order.{starts_pair, unpaired, AreLone};
 
 use evm_rows::split_row;
 use std::alloc::{AllocError, Global};
 
-// The rows of `flat`, each of `width` numbers, borrowed.
-fn rows_in(alloc: Global, flat: &[i32], width: usize) -> Result<Vec<&[i32]>, AllocError>
+// The rows of `flat`, each of `width` numbers, borrowed: a row that equals the last one that is left takes that away, so
+// that few are sorted.
+fn lone_rows(alloc: Global, flat: &[i32], width: usize) -> Result<Vec<&[i32]>, AllocError>
     requires some { 0 < width }
     requires narrow { width ≤ 6 }
     requires whole { length flat.now % width ≡ 0 }
-    ensures { IfOk result (λ v. targets v.items ≡ rows_of flat.now width 0) }
+    ensures { IfOk result (λ v. AreLone width (rows_of flat.now width 0) (targets v.items)) }
 {
-    let mut rows = Vec::with_capacity(alloc, flat.len() / width)?;
+    let mut rows: Vec<&[i32]> = Vec::with_capacity(alloc, flat.len() / width)?;
     let mut left = flat;
     while left.len() != 0 {
         let (row, rest) = split_row(left, width, 0);
-        rows.push(row)?;
+        let count = rows.len();
+        if 0 < count && rows[count - 1] == row {
+            rows.truncate(count - 1);
+        } else {
+            rows.push(row)?;
+        }
         left = rest;
     }
     Ok(rows)
@@ -48,18 +55,18 @@ fn append_unpaired(out: &mut Vec<i32>, rows: &[&[i32]]) -> Result<(), AllocError
     Ok(())
 }
 
-/// The rows of `flat` that occur an odd number of times, ascending. Takes memory for a reference a row, as much again to
-/// sort them, and for the answer.
+/// The rows of `flat` that occur an odd number of times, ascending. Takes memory for a reference a row, and for the answer.
 pub(crate) fn reduced(alloc: Global, flat: &[i32], width: usize) -> Result<Vec<i32>, AllocError>
     requires some { 0 < width }
     requires narrow { width ≤ 6 }
     requires whole { length flat.now % width ≡ 0 }
     ensures whole { IfOk result (λ v. length v.items % width ≡ 0) }
-    ensures rows { IfOk result (λ v. IsReduced width (rows_of flat.now width 0) (rows_of v.items width 0)) }
+    ensures rows { IfOk result
+        (λ v. IsReduced width (rows_of flat.now width 0) (rows_of v.items width 0)) }
 {
-    let mut rows = rows_in(alloc, flat, width)?;
-    rows.sort()?;
-    let mut out = Vec::with_capacity(alloc, flat.len())?;
+    let mut rows = lone_rows(alloc, flat, width)?;
+    rows.sort_unstable();
+    let mut out = Vec::with_capacity(alloc, rows.len().saturating_mul(width))?;
     append_unpaired(&mut out, rows.as_slice())?;
     Ok(out)
 }

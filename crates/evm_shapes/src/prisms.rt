@@ -56,7 +56,9 @@ fn prism(alloc: Global, a: Rows<'_>, axis: usize, lo: i32, hi: i32) -> Result<So
     requires some { lo <ℤ hi }
     requires fits { is_lift_in_range axis lo hi (vertices_of a) ≡ true }
     ensures dim { IfOk result (λ s. s.dim ≡ (vertices_of a.entry).dim + 1) }
-    ensures rows { IfOk result (λ s. s.rows ≡ evm ((vertices_of a.entry).dim + 1) (lifted_cells axis lo hi (vertices_of a.entry))) }
+    ensures rows { IfOk result
+        (λ s. s.rows ≡ evm ((vertices_of a.entry).dim + 1)
+        (lifted_cells axis lo hi (vertices_of a.entry))) }
     ensures cells { IfOk result (λ s. cells_of s ≡ lifted_cells axis lo hi (vertices_of a.entry)) }
 {
     let dim = a.dim() + 1;
@@ -71,7 +73,7 @@ fn prism(alloc: Global, a: Rows<'_>, axis: usize, lo: i32, hi: i32) -> Result<So
 /// but not at, `hi`, both in the limits of vertices of the dimension that it has then.
 ///
 /// Each row stands once at `lo` and once at `hi`; the two ascending lists are sorted into one. Takes memory for the rows
-/// of the prism twice, and for two references a row while they are sorted.
+/// of the prism twice, and for a reference a row while they are sorted.
 ///
 /// # Errors
 ///
@@ -85,9 +87,12 @@ pub fn lift(alloc: Global, a: Rows<'_>, axis: usize, lo: i32, hi: i32) -> Result
     requires some { lo <ℤ hi }
     requires ends { hi ≤ℤ pos (limit ((vertices_of a).dim + 1)) }
     ensures dim { IfOk result (λ s. s.dim ≡ (vertices_of a.entry).dim + 1) }
-    ensures rows { IfOk result (λ s. s.rows ≡ evm ((vertices_of a.entry).dim + 1) (lifted_cells axis lo hi (vertices_of a.entry))) }
+    ensures rows { IfOk result
+        (λ s. s.rows ≡ evm ((vertices_of a.entry).dim + 1)
+        (lifted_cells axis lo hi (vertices_of a.entry))) }
     ensures cells { IfOk result (λ s. cells_of s ≡ lifted_cells axis lo hi (vertices_of a.entry)) }
-    ensures range { IsErrOf result ShapeError.Range ↔ (is_lift_in_range axis lo hi (vertices_of a.entry) ≡ false) }
+    ensures range { IsErrOf result ShapeError.Range
+        ↔ (is_lift_in_range axis lo hi (vertices_of a.entry) ≡ false) }
 {
     if !all_within(a, a.dim() + 1) {
         return Err(ShapeError::Range);

@@ -33,7 +33,8 @@ fn unite(alloc: Global, sweep: &mut Sweep<'_>, count: usize) -> Result<Solid, No
     ensures same_dim { sweep.new.dim ≡ sweep.old.dim }
     ensures left { OnOk result (sweep.new.left ≡ drop count sweep.old.left) }
     ensures dim { IfOk result (λ s. s.dim ≡ sweep.old.dim) }
-    ensures rows { IfOk result (λ s. s.rows ≡ united sweep.old.dim (sections_of (take count sweep.old.left))) }
+    ensures rows { IfOk result
+        (λ s. s.rows ≡ united sweep.old.dim (sections_of (take count sweep.old.left))) }
 {
     if count == 1 {
         sweep.advance(alloc)?;
@@ -49,14 +50,16 @@ fn unite(alloc: Global, sweep: &mut Sweep<'_>, count: usize) -> Result<Solid, No
 
 /// The projection along an axis, counted from 1: each cell without its coordinate there, once. It is the union of all
 /// sections along the axis. The axis is put first, by one sort, and the sections of the slabs are united half by half,
-/// so that small unions are made of small ones. Takes memory for the rows twice, for two references a row while they are
+/// so that small unions are made of small ones. Takes memory for the rows twice, for a reference a row while they are
 /// sorted, and for the unions of one branch of the halving.
 pub fn project(alloc: Global, a: Rows<'_>, axis: usize) -> Result<Solid, NoMemory>
     requires deep { 2 ≤ (vertices_of a).dim }
     requires low { 0 < axis }
     requires high { axis ≤ (vertices_of a).dim }
     ensures dim { IfOk result (λ s. s.dim ≡ (vertices_of a.entry).dim - 1) }
-    ensures rows { IfOk result (λ s. s.rows ≡ evm ((vertices_of a.entry).dim - 1) (projected_cells axis (vertices_of a.entry))) }
+    ensures rows { IfOk result
+        (λ s. s.rows ≡ evm ((vertices_of a.entry).dim - 1)
+        (projected_cells axis (vertices_of a.entry))) }
     ensures cells { IfOk result (λ s. cells_of s ≡ projected_cells axis (vertices_of a.entry)) }
 {
     let turned = fronted(alloc, a, axis)?;

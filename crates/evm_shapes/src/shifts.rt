@@ -83,7 +83,8 @@ fn row_fits(row: &[i32], by: &[i64]) -> bool
 // Whether each moved row is a point.
 fn all_fit(a: Rows<'_>, by: &[i64]) -> bool
     requires shift { is_shift (vertices_of a).dim by.now ≡ true }
-    ensures { result ≡ list_all (is_point (vertices_of a.entry).dim) (map (added by.now) (vertices_of a.entry).rows) }
+    ensures { result ≡ list_all (is_point (vertices_of a.entry).dim)
+        (map (added by.now) (vertices_of a.entry).rows) }
 {
     let mut left = a.flat;
     while left.len() != 0 {
@@ -111,8 +112,10 @@ fn append_added(out: &mut Vec<i32>, row: &[i32], by: &[i64]) -> Result<(), Alloc
 // Appends each row, moved.
 fn append_all_added(out: &mut Vec<i32>, a: Rows<'_>, by: &[i64]) -> Result<(), AllocError>
     requires shift { is_shift (vertices_of a).dim by.now ≡ true }
-    requires fits { list_all (is_point (vertices_of a).dim) (map (added by.now) (vertices_of a).rows) ≡ true }
-    ensures { OnOk result (out.new.items ≡ out.old.items ++ flat_of (map (added by.now) (vertices_of a.entry).rows)) }
+    requires fits { list_all (is_point (vertices_of a).dim)
+        (map (added by.now) (vertices_of a).rows) ≡ true }
+    ensures { OnOk result
+        (out.new.items ≡ out.old.items ++ flat_of (map (added by.now) (vertices_of a.entry).rows)) }
 {
     let mut left = a.flat;
     while left.len() != 0 {
@@ -129,9 +132,11 @@ fn append_all_added(out: &mut Vec<i32>, a: Rows<'_>, by: &[i64]) -> Result<(), A
 pub fn shift(alloc: Global, a: Rows<'_>, by: &[i64]) -> Result<Solid, ShapeError>
     requires { is_shift (vertices_of a).dim by.now ≡ true }
     ensures dim { IfOk result (λ s. s.dim ≡ (vertices_of a.entry).dim) }
-    ensures rows { IfOk result (λ s. s.rows ≡ evm (vertices_of a.entry).dim (shifted_cells by.now (vertices_of a.entry))) }
+    ensures rows { IfOk result
+        (λ s. s.rows ≡ evm (vertices_of a.entry).dim (shifted_cells by.now (vertices_of a.entry))) }
     ensures cells { IfOk result (λ s. cells_of s ≡ shifted_cells by.now (vertices_of a.entry)) }
-    ensures range { IsErrOf result ShapeError.Range ↔ (is_shift_in_range by.now (vertices_of a.entry) ≡ false) }
+    ensures range { IsErrOf result ShapeError.Range
+        ↔ (is_shift_in_range by.now (vertices_of a.entry) ≡ false) }
 {
     if !all_fit(a, by) {
         return Err(ShapeError::Range);

@@ -29,7 +29,8 @@ impl<const N: usize> Model for InlineBytes<N> {
 impl<const N: usize> InlineBytes<N> {
     /// These bytes, or `None` exactly where there are more than `N`.
     pub fn of(bytes: &[u8]) -> Option<InlineBytes<N>>
-        ensures { MatchOption result (N < length bytes.now) (λ kept. (length bytes.now ≤ N) × (kept ≡ bytes.now)) }
+        ensures { MatchOption result (N < length bytes.now)
+            (λ kept. (length bytes.now ≤ N) × (kept ≡ bytes.now)) }
     {
         if bytes.len() > N {
             return None;

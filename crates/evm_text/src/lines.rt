@@ -6,8 +6,10 @@ ghost use Rattle.evm_text.specs.Lines.{is_lf, lines, without_cr};
 
 /// The first line of a text, without its line feed, and what follows it; or `None` exactly where the text is empty.
 pub fn first_line(text: &[u8]) -> Option<(&[u8], &[u8])>
-    ensures line { MatchOption result (lines text.now ≡ []) (λ cut. lines text.now ≡ cut.0.now ∷ lines cut.1.now) }
-    ensures shorter { MatchOption result (length text.now ≡ 0) (λ cut. length cut.1.now < length text.now) }
+    ensures line { MatchOption result (lines text.now ≡ [])
+        (λ cut. lines text.now ≡ cut.0.now ∷ lines cut.1.now) }
+    ensures shorter { MatchOption result (length text.now ≡ 0)
+        (λ cut. length cut.1.now < length text.now) }
 {
     if text.is_empty() {
         return None;

@@ -36,7 +36,8 @@ pub fn read_number(word: &[u8]) -> Option<i64>
 #[tactic(auto, using(crate::proofs::Digits::range_pos, crate::proofs::Digits::range_neg))]
 fn read_digits(word: &[u8]) -> Option<i64>
     ensures value { result ≡ digits word.now }
-    ensures range { IfSome result (λ n. (in_number_range n ≡ true) × (in_number_range (neg_ℤ n) ≡ true)) }
+    ensures range { IfSome result
+        (λ n. (in_number_range n ≡ true) × (in_number_range (neg_ℤ n) ≡ true)) }
 {
     if are_digits(word) {
         Some(digits_sum(word) as i64)

@@ -12,7 +12,7 @@ fn cuts_a_text_and_reads_its_numbers(rt: HostRuntime) -> Result<(), Fail> {
     let (word, after) = first_word(line).ok_or("word")?;
     let words = words_of(rt.alloc(), after)?;
     assert_eq!(rt; words.len(), 1);
-    assert!(rt; is_blank(b'\t') && is_digit(b'0') && !is_comment(word));
+    assert!(rt; is_digit(b'0') && !is_comment(word));
     assert!(rt; is_comment(rest) && first_line(b"").is_none() && first_word(b" \t").is_none());
     let numbers: [(&[u8], Option<i64>); 8] = [
         (word, Some(7)),
@@ -27,5 +27,8 @@ fn cuts_a_text_and_reads_its_numbers(rt: HostRuntime) -> Result<(), Fail> {
     for (word, number) in numbers {
         assert_eq!(rt; read_number(word), number);
     }
+    let kept = InlineBytes::<4>::of(b"abcd").ok_or("four bytes")?;
+    assert_eq!(rt; kept.bytes(), b"abcd".as_slice());
+    assert!(rt; kept.len() == 4 && InlineBytes::<4>::of(b"abcde").is_none());
     Ok(())
 }

@@ -7,7 +7,7 @@ ghost use Rattle.evm_text.specs.Words.{is_blank, is_comment, words};
 use std::alloc::{AllocError, Global};
 
 /// Whether a byte is a space or a tab.
-pub fn is_blank(b: u8) -> bool
+fn is_blank(b: u8) -> bool
     ensures { result ≡ is_blank b }
 {
     b == b' ' || b == b'\t'
@@ -38,7 +38,8 @@ pub fn words_of(alloc: Global, line: &[u8]) -> Result<Vec<&[u8]>, AllocError>
 
 /// The first word of a line, and what follows it; or `None` exactly where the line has no words.
 pub fn first_word(line: &[u8]) -> Option<(&[u8], &[u8])>
-    ensures { MatchOption result (words line.now ≡ []) (λ cut. words line.now ≡ cut.0.now ∷ words cut.1.now) }
+    ensures { MatchOption result (words line.now ≡ [])
+        (λ cut. words line.now ≡ cut.0.now ∷ words cut.1.now) }
 {
     let line = without_blanks(line);
     if line.is_empty() {

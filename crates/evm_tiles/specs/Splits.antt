@@ -1,6 +1,7 @@
 -- A solid, cut in two by a plane.
 use Rattle.evm_cells.specs.Windows.{is_under, is_over}
-use Rattle.std.specs.Prelude.{◌≡◌, ℕ, ◌<◌, ◌<ℤ◌, ℤ, pos, neg_ℤ, filter}
+use Rattle.std.specs.Prelude.{◌≡◌, ℕ, ◌<◌, ◌<ℤ◌, ℤ, pos, neg_ℤ, true, filter}
+use Rattle.std.specs.List.{list_all}
 use Rattle.evm_cells.specs.Limits.{limit}
 use Rattle.evm_rows.specs.Rows.{Vertices, cells_of}
 use Rattle.evm_tiles.specs.declared.node.Split.{Split}
@@ -18,3 +19,9 @@ pub record IsSplit (v : Vertices) (s : Split) : Type 0 where
   pub high_dim : s.high.dim ≡ v.dim
   pub low_cells : cells_of s.low ≡ filter (is_under s.axis s.at) (cells_of v)
   pub high_cells : cells_of s.high ≡ filter (is_over s.axis s.at) (cells_of v)
+
+-- a height of the first axis with all cells of one solid below it, and all of another above
+pub record IsApart (v w : Vertices) (at : ℤ) : Type 0 where
+  pub between : IsBetween v.dim 0 at
+  pub under : list_all (is_under 0 at) (cells_of v) ≡ true
+  pub over : list_all (is_over 0 at) (cells_of w) ≡ true

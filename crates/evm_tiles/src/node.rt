@@ -7,7 +7,7 @@ ghost use Rattle.evm_cells.specs.Boxes.{is_box};
 ghost use Rattle.evm_rows.specs.Rows.{cells_of};
 ghost use Rattle.evm_rows.specs.View.{vertices_of};
 ghost use Rattle.evm_tiles.specs.Trees.{node_cells, node_window, is_well, IsBoth, IsChanged, IsOne};
-ghost use Rattle.evm_tiles.specs.Splits.{IsBetween, IsSplit};
+ghost use Rattle.evm_tiles.specs.Splits.{IsApart, IsBetween, IsSplit};
 
 use crate::solids::{Side, both, over, side_of, under};
 use evm_rows::{NoMemory, Rows, Solid, limit};
@@ -302,46 +302,96 @@ pub(crate) fn planted(alloc: Global, solid: Solid) -> Result<Rc<Node>, NoMemory>
     Ok(node)
 }
 
-impl Node {
-    /// The tree with a change. What the change does not meet is shared.
-    pub(crate) fn changed(&self, alloc: Global, d: &Solid) -> Result<Rc<Node>, NoMemory>
-        requires { is_well d.now.dim self.now ≡ true }
-        ensures well { IfOk result (λ t. is_well d.now.dim t.value ≡ true) }
-        ensures cells { IfOk result (λ t. IsChanged self.now d.now t.value) }
-    {
-        match self {
-            Node::Leaf { solid, most } => {
-                let all = both(alloc, solid, d)?;
-                let node = grown(alloc, all, *most, 0, DEEP)?;
+/// A height of the first axis with one solid below it and another above it, where the last row of the one and the first of the
+/// other show it.
+fn plane_between(low: Rows<'_>, high: Rows<'_>) -> Option<i32>
+    requires { (vertices_of high).dim ≡ (vertices_of low).dim }
+    ensures { IfSome result (IsApart (vertices_of low.entry) (vertices_of high.entry)) }
+{
+    let count = low.len();
+    if count == 0 || high.len() == 0 {
+        return None;
+    }
+    let last = low.coord(count - 1, 1);
+    let at = high.coord(0, 1);
+    let limit = limit(low.dim());
+    if last <= at && -limit < at && at < limit {
+        Some(at)
+    } else {
+        None
+    }
+}
+
+/// A leaf with a change. A change that lies beyond a leaf that was never cut is set beside it by a cut, so that the leaf is shared.
+fn leaf_changed(
+    alloc: Global,
+    tree: &Rc<Node>,
+    solid: &Solid,
+    most: usize,
+    d: &Solid,
+) -> Result<Rc<Node>, NoMemory>
+    requires dim { solid.now.dim ≡ d.now.dim }
+    requires well { is_well d.now.dim tree.now.value ≡ true }
+    requires cells { node_cells d.now.dim tree.now.value ≡ cells_of solid.now }
+    ensures well { IfOk result (λ t. is_well d.now.dim t.value ≡ true) }
+    ensures cells { IfOk result (λ t. IsChanged tree.now.value d.now t.value) }
+{
+    if most < solid.len() {
+        if let Some(at) = plane_between(solid.rows(), d.rows()) {
+            let other = planted(alloc, d.copy(alloc)?)?;
+            let own = tree.clone()?;
+            let node = cut(alloc, d.dim(), 0, at, own, other)?;
+            return Ok(node);
+        }
+        if let Some(at) = plane_between(d.rows(), solid.rows()) {
+            let other = planted(alloc, d.copy(alloc)?)?;
+            let own = tree.clone()?;
+            let node = cut(alloc, d.dim(), 0, at, other, own)?;
+            return Ok(node);
+        }
+    }
+    let all = both(alloc, solid, d)?;
+    let node = grown(alloc, all, most, 0, DEEP)?;
+    Ok(node)
+}
+
+/// A tree with a change. What the change does not meet is shared.
+pub(crate) fn changed(alloc: Global, tree: &Rc<Node>, d: &Solid) -> Result<Rc<Node>, NoMemory>
+    requires { is_well d.now.dim tree.now.value ≡ true }
+    ensures well { IfOk result (λ t. is_well d.now.dim t.value ≡ true) }
+    ensures cells { IfOk result (λ t. IsChanged tree.now.value d.now t.value) }
+{
+    match &**tree {
+        Node::Leaf { solid, most } => {
+            let node = leaf_changed(alloc, tree, solid, *most, d)?;
+            Ok(node)
+        }
+        Node::Cut {
+            axis,
+            at,
+            low,
+            high,
+        } => match side_of(d.rows(), *axis, *at) {
+            Side::Below => {
+                let below = changed(alloc, low, d)?;
+                let above = high.clone()?;
+                let node = joined(alloc, d.dim(), *axis, *at, below, above)?;
                 Ok(node)
             }
-            Node::Cut {
-                axis,
-                at,
-                low,
-                high,
-            } => match side_of(d.rows(), *axis, *at) {
-                Side::Below => {
-                    let below = low.changed(alloc, d)?;
-                    let above = high.clone()?;
-                    let node = joined(alloc, d.dim(), *axis, *at, below, above)?;
-                    Ok(node)
-                }
-                Side::Above => {
-                    let below = low.clone()?;
-                    let above = high.changed(alloc, d)?;
-                    let node = joined(alloc, d.dim(), *axis, *at, below, above)?;
-                    Ok(node)
-                }
-                Side::Both => {
-                    let first = under(alloc, d.rows(), *axis, *at)?;
-                    let second = over(alloc, d.rows(), *axis, *at)?;
-                    let below = low.changed(alloc, &first)?;
-                    let above = high.changed(alloc, &second)?;
-                    let node = joined(alloc, d.dim(), *axis, *at, below, above)?;
-                    Ok(node)
-                }
-            },
-        }
+            Side::Above => {
+                let below = low.clone()?;
+                let above = changed(alloc, high, d)?;
+                let node = joined(alloc, d.dim(), *axis, *at, below, above)?;
+                Ok(node)
+            }
+            Side::Both => {
+                let first = under(alloc, d.rows(), *axis, *at)?;
+                let second = over(alloc, d.rows(), *axis, *at)?;
+                let below = changed(alloc, low, &first)?;
+                let above = changed(alloc, high, &second)?;
+                let node = joined(alloc, d.dim(), *axis, *at, below, above)?;
+                Ok(node)
+            }
+        },
     }
 }

@@ -64,7 +64,50 @@ fn compared(alloc: Global) -> Result<(bool, usize, usize), NoMemory> {
     ))
 }
 
+// Whether changes on both sides of a leaf of sixteen hundred rows, and then one in it, give the rows of a list.
+fn beside(alloc: Global) -> Result<bool, NoMemory> {
+    let (_, list) = checker(alloc)?;
+    let tree = Tiles::from_rows(alloc, list.rows())?;
+    let (tree, list) = toggled(alloc, tree, list, 100, 0)?;
+    let (tree, list) = toggled(alloc, tree, list, -100, 0)?;
+    let (tree, list) = toggled(alloc, tree, list, 100, 0)?;
+    let apart = tree.to_rows(alloc)?.same(&list);
+    let (tree, list) = toggled(alloc, tree, list, 10, 11)?;
+    let within = tree.to_rows(alloc)?.same(&list);
+    Ok(apart && within)
+}
+
+// Whether the solid has these rows.
+fn has_rows(solid: &Solid, dim: usize, numbers: &[i32]) -> bool {
+    solid.dim() == dim && solid.rows().flat == numbers
+}
+
+// Two squares that overlap, as a tree: three sections, and the window that the first square fills.
+#[tactic(auto, unfolding(evm_cells::specs::Limits::limit, evm_cells::specs::Limits::is_point, evm_cells::specs::Limits::is_point_coord, evm_cells::specs::Limits::is_cell_coord, evm_cells::specs::Places::each))]
+fn overlapped(alloc: Global) -> Result<(bool, bool), NoMemory> {
+    let (Ok(first), Ok(side), Ok(corner)) = (
+        Solid::of_box(alloc, &[0, 0], &[2, 2]),
+        Solid::of_box(alloc, &[2, 1], &[3, 3]),
+        Solid::of_box(alloc, &[1, 2], &[2, 3]),
+    ) else {
+        return Err(NoMemory);
+    };
+    let tree = Tiles::from_rows(alloc, first.rows())?
+        .xor(alloc, side.rows())?
+        .xor(alloc, corner.rows())?;
+    let low = tree.section(alloc, 1)?;
+    let high = tree.section(alloc, 2)?;
+    let above = tree.section(alloc, 3)?;
+    let part = tree.window(alloc, &[0, 0], &[2, 2])?;
+    Ok((
+        has_rows(&low, 1, &[0, 3]) && has_rows(&high, 1, &[1, 3]) && has_rows(&above, 1, &[]),
+        has_rows(&part, 2, &[0, 0, 0, 2, 2, 0, 2, 2]),
+    ))
+}
+
 #[test]
 fn trees_have_the_rows_of_lists(rt: HostRuntime) {
     assert_eq!(rt; compared(rt.alloc()), Ok((true, 4, 40)));
+    assert_eq!(rt; beside(rt.alloc()), Ok(true));
+    assert_eq!(rt; overlapped(rt.alloc()), Ok((true, true)));
 }

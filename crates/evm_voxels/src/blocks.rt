@@ -53,11 +53,13 @@ fn fill_block(
     requires first { first ≤ of.now.width }
     requires some { 0 < of.now.width }
     requires long { length last.old.items ≡ of.now.depth + 1 }
-    requires clear { (k z : ℕ) → k < 32 → z < of.now.depth + 1 → bit_on k (slice_index last.old.items z) ≡ false }
+    requires clear { (k z : ℕ) → k < 32 → z < of.now.depth + 1
+        → bit_on k (slice_index last.old.items z) ≡ false }
     ensures words { OnOk result ((k : ℕ) → k < 32 → map (bit_on k) words.new.items
         ≡ table (of.now.height ∷ of.now.depth ∷ []) (λ c. turns (filled_in of.now) (pos (first + k) ∷ c))) }
     ensures long { OnOk result (length last.new.items ≡ of.now.depth + 1) }
-    ensures clear { OnOk result ((k z : ℕ) → k < 32 → z < of.now.depth + 1 → bit_on k (slice_index last.new.items z) ≡ false) }
+    ensures clear { OnOk result ((k z : ℕ) → k < 32 → z < of.now.depth + 1
+        → bit_on k (slice_index last.new.items z) ≡ false) }
 {
     words.clear();
     for y in 0..of.height + 1 {
@@ -75,7 +77,9 @@ fn append_bits(
 ) -> Result<(), AllocError>
     requires column { column < 32 }
     requires few { length words.now ≤ 2 ^ 30 + 1 }
-    ensures { OnOk result (out.new.items ≡ out.old.items ++ flat_of (map (λ t. head.now ++ t) (places (map (bit_on column) words.now) 0))) }
+    ensures { OnOk result (out.new.items
+        ≡ out.old.items ++ flat_of (map
+        (λ t. head.now ++ t) (places (map (bit_on column) words.now) 0))) }
 {
     for (z, word) in words.iter().enumerate() {
         append_if(out, head, z, (*word >> column) & 1 == 1)?;

@@ -86,7 +86,8 @@ impl Grid<'_> {
         requires some { 0 < count }
         requires few { count ≤ 33 }
         requires room { mark + count ≤ 32 * length self.now.marks.now }
-        ensures bits { (k : ℕ) → bit_on k result ≡ (nat_lt k count && is_marked self.now.marks.now (mark + k)) }
+        ensures bits { (k : ℕ)
+            → bit_on k result ≡ (nat_lt k count && is_marked self.now.marks.now (mark + k)) }
         ensures small { result < 2 ^ 33 }
     {
         let pair = self.word(mark / 32 + 1) * (1 << 32) + self.word(mark / 32);
@@ -99,7 +100,9 @@ impl Grid<'_> {
         requires some { 0 < self.now.width }
         requires row { y < self.now.height }
         requires image { z < self.now.depth }
-        ensures bits { (k : ℕ) → k < 33 → bit_on k result ≡ filled_in self.now ((pos (first + k) -ℤ pos 1) ∷ pos y ∷ pos z ∷ []) }
+        ensures bits { (k : ℕ) → k < 33
+            → bit_on k result
+            ≡ filled_in self.now ((pos (first + k) -ℤ pos 1) ∷ pos y ∷ pos z ∷ []) }
         ensures small { result < 2 ^ 34 }
     {
         let start = z * self.pitch + y * self.width;
@@ -114,7 +117,8 @@ impl Grid<'_> {
     pub fn seams(&self, first: usize, y: usize, z: usize) -> u32
         requires first { first ≤ self.now.width }
         requires some { 0 < self.now.width }
-        ensures { (k : ℕ) → k < 32 → bit_on k result ≡ seam (filled_in self.now) (pos (first + k)) (pos y ∷ pos z ∷ []) }
+        ensures { (k : ℕ) → k < 32
+            → bit_on k result ≡ seam (filled_in self.now) (pos (first + k)) (pos y ∷ pos z ∷ []) }
     {
         if y < self.height && z < self.depth {
             let row = self.row(first, y, z);

@@ -108,7 +108,8 @@ pub fn begins_digit(bytes: &[u8]) -> bool
 // A separator and a number.
 #[tactic(auto, unfolding(evm_formats::specs::Header::spaced_number))]
 fn next_number(bytes: &[u8]) -> Option<(u32, &[u8])>
-    ensures { option_map (λ r. (r.0, r.1.now)) result ≡ option_map capped_number (spaced_number bytes.now) }
+    ensures { option_map
+        (λ r. (r.0, r.1.now)) result ≡ option_map capped_number (spaced_number bytes.now) }
 {
     if !begins_blank(bytes) {
         return None;

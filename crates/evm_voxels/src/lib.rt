@@ -54,7 +54,8 @@ pub fn read_pgm(
     ensures vertices { IfOk result (λ s. s.rows ≡ evm dim (cells_of s)) }
 
     // The refusals come whatever memory there is.
-    ensures refused { (e : VoxelError) → e ≢ NoMemory → IsErrOf result e ↔ (pgm_cells dim threshold bytes.now ≡ Err e) }
+    ensures refused { (e : VoxelError) → e ≢ NoMemory → IsErrOf result e
+        ↔ (pgm_cells dim threshold bytes.now ≡ Err e) }
     ensures kind { ¬ IsErrOf result VoxelError.Kind }
 
     // A want of memory may stand in place of a solid alone.
@@ -86,7 +87,8 @@ pub fn read_y4m(
     ensures vertices { IfOk result (λ s. s.rows ≡ evm dim (cells_of s)) }
 
     // The refusals come whatever memory there is.
-    ensures refused { (e : VoxelError) → e ≢ NoMemory → IsErrOf result e ↔ (y4m_cells dim threshold bytes.now ≡ Err e) }
+    ensures refused { (e : VoxelError) → e ≢ NoMemory → IsErrOf result e
+        ↔ (y4m_cells dim threshold bytes.now ≡ Err e) }
 
     // A want of memory may stand in place of a solid alone.
     ensures found { (S : List (List ℤ)) → y4m_cells dim threshold bytes.now ≡ Ok S

@@ -17,7 +17,8 @@ pub fn append_if(
     on: bool,
 ) -> Result<(), AllocError>
     requires { number ≤ 2 ^ 30 }
-    ensures { OnOk result (out.new.items ≡ out.old.items ++ cond on (head.now ++ pos number ∷ []) []) }
+    ensures { OnOk result (out.new.items
+        ≡ out.old.items ++ cond on (head.now ++ pos number ∷ []) []) }
 {
     if on {
         out.extend_from_slice(head)?;

@@ -69,8 +69,10 @@ fn shot_of<'a>(
     fields: Fields<'a>,
 ) -> Result<Shot<'a>, VoxelError>
     requires { (dim ≡ 2) ⊎ (dim ≡ 3) }
-    ensures exact { map_ok shown result ≡ shot dim number (option_map pair_of first) (Some (fields_read fields.entry)) }
-    ensures room { IfOk result (λ s. bytes_of s.image.wide (s.size.height * s.size.width) ≡ length s.image.bytes.now) }
+    ensures exact { map_ok shown result
+        ≡ shot dim number (option_map pair_of first) (Some (fields_read fields.entry)) }
+    ensures room { IfOk result
+        (λ s. bytes_of s.image.wide (s.size.height * s.size.width) ≡ length s.image.bytes.now) }
     ensures width { IfOk result (λ s. s.size.width ≤ limit dim) }
     ensures height { IfOk result (λ s. s.size.height ≤ limit dim) }
     ensures number { IfOk result (λ s. number < limit dim) }
@@ -113,7 +115,8 @@ pub fn read_image(
 ) -> Result<Shot<'_>, VoxelError>
     requires { (dim ≡ 2) ⊎ (dim ≡ 3) }
     ensures exact { map_ok shown result ≡ image_at dim number (option_map pair_of first) bytes.now }
-    ensures room { IfOk result (λ s. bytes_of s.image.wide (s.size.height * s.size.width) ≡ length s.image.bytes.now) }
+    ensures room { IfOk result
+        (λ s. bytes_of s.image.wide (s.size.height * s.size.width) ≡ length s.image.bytes.now) }
     ensures width { IfOk result (λ s. s.size.width ≤ limit dim) }
     ensures height { IfOk result (λ s. s.size.height ≤ limit dim) }
     ensures number { IfOk result (λ s. number < limit dim) }
@@ -147,7 +150,8 @@ fn skip_white(bytes: &[u8]) -> &[u8]
 pub fn measure(dim: usize, bytes: &[u8]) -> Result<Extent, VoxelError>
     requires { (dim ≡ 2) ⊎ (dim ≡ 3) }
     ensures stack { IfOk result (λ s. IsStack dim bytes.now s.size s.depth) }
-    ensures refused { IfErr result (λ e. (threshold : ℕ) → pgm_cells dim threshold bytes.now ≡ Err e) }
+    ensures refused { IfErr result
+        (λ e. (threshold : ℕ) → pgm_cells dim threshold bytes.now ≡ Err e) }
     ensures width { IfOk result (λ s. s.size.width ≤ limit dim) }
     ensures height { IfOk result (λ s. s.size.height ≤ limit dim) }
     ensures depth { IfOk result (λ s. s.depth ≤ limit dim) }
@@ -179,10 +183,12 @@ pub fn mark(
 ) -> Result<Vec<u32>, VoxelError>
     requires dim { (dim ≡ 2) ⊎ (dim ≡ 3) }
     requires depth { depth ≤ limit dim }
-    requires room { (s : ShotOf) → image_at dim 0 None bytes.now ≡ Ok s → depth * (s.height * s.width) < 2 ^ 63 }
+    requires room { (s : ShotOf) → image_at dim 0 None bytes.now ≡ Ok s
+        → depth * (s.height * s.width) < 2 ^ 63 }
     ensures marked { IfOk result (λ v. (s : ShotOf) (ps : List Picture) → image_at dim 0 None bytes.now ≡ Ok s → images_from dim s ≡ Ok ps
         → AreMarked v.items (s.height * s.width) (length ps) threshold ps) }
-    ensures refused { IfErr result (λ e. (e ≡ NoMemory) ⊎ ((level : ℕ) → pgm_cells dim level bytes.now ≡ Err e)) }
+    ensures refused { IfErr result
+        (λ e. (e ≡ NoMemory) ⊎ ((level : ℕ) → pgm_cells dim level bytes.now ≡ Err e)) }
 {
     let first = read_image(dim, 0, None, bytes)?;
     let count = first.size.height * first.size.width;

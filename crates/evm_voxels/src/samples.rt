@@ -31,7 +31,8 @@ fn with_bit(word: u32, k: u32, on: bool) -> u32
 // The word whose bit k says whether sample number first + k, of `count`, is at least the threshold.
 fn mark_word(image: Image<'_>, threshold: u32, first: usize, count: usize) -> u32
     requires { bytes_of image.wide count ≤ length image.bytes.now }
-    ensures { (i : ℕ) → i < 32 → first + i < count → bit_on i result ≡ nat_le threshold (sample (picture_of image.entry) (first + i)) }
+    ensures { (i : ℕ) → i < 32 → first + i < count
+        → bit_on i result ≡ nat_le threshold (sample (picture_of image.entry) (first + i)) }
 {
     let mut word = 0u32;
     for k in 0..(count - first.min(count)).min(32) {
@@ -49,7 +50,8 @@ pub fn mark_image(
 ) -> Result<(), AllocError>
     requires room { bytes_of image.wide count ≤ length image.bytes.now }
     requires small { count ≤ 2 ^ 60 }
-    ensures { OnOk result (HasMarks marks.old.items marks.new.items count (λ i. nat_le threshold (sample (picture_of image.entry) i))) }
+    ensures { OnOk result (HasMarks marks.old.items marks.new.items count
+        (λ i. nat_le threshold (sample (picture_of image.entry) i))) }
 {
     for word in 0..count.div_ceil(32) {
         marks.push(mark_word(image, threshold, 32 * word, count))?;

@@ -27,7 +27,8 @@ pub fn solid_of(
     requires depth { extent.depth ≤ limit dim }
     requires some { 1 ≤ extent.depth }
     requires room { extent.depth * (extent.size.height * extent.size.width) < 2 ^ 63 }
-    requires size { length marks.now ≡ extent.depth * words_of (extent.size.height * extent.size.width) }
+    requires size { length marks.now
+        ≡ extent.depth * words_of (extent.size.height * extent.size.width) }
     ensures dim { IfOk result (λ s. s.dim ≡ dim) }
     ensures rows { (threshold : ℕ) (images : List Picture) → length images ≡ extent.depth
         → AreMarked marks.now (extent.size.height * extent.size.width) extent.depth threshold images

@@ -33,7 +33,8 @@ pub fn image_vertices(alloc: Global, places: &Grid<'_>) -> Result<Vec<i32>, Allo
     requires width { places.now.width ≤ limit 2 }
     requires height { places.now.height ≡ 1 }
     requires depth { places.now.depth ≤ limit 2 }
-    ensures { IfOk result (λ v. v.items ≡ flat_of (evm 2 (cells_where 2 (filled_flat places.now)))) }
+    ensures { IfOk result
+        (λ v. v.items ≡ flat_of (evm 2 (cells_where 2 (filled_flat places.now)))) }
 {
     let mut out = Vec::new(alloc);
     for x in 0..places.width + 1 {

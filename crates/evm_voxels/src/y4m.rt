@@ -36,7 +36,8 @@ fn cut_at(bytes: &[u8], stop: u8) -> Option<(&[u8], &[u8])>
 
 // What was found, and one value more.
 fn with_value<'a>(found: Found<'a>, value: &'a [u8]) -> Found<'a>
-    ensures { (vs : List (List ℕ)) → Shows found.entry vs → Shows result (vs ++ value.entry.now ∷ []) }
+    ensures { (vs : List (List ℕ)) → Shows found.entry vs
+        → Shows result (vs ++ value.entry.now ∷ []) }
 {
     match found {
         Found::Never => Found::Once(value),
@@ -47,7 +48,8 @@ fn with_value<'a>(found: Found<'a>, value: &'a [u8]) -> Found<'a>
 
 // What was found, and the value of one parameter more, if it has this letter.
 fn with_parameter<'a>(found: Found<'a>, letter: u8, parameter: &'a [u8]) -> Found<'a>
-    ensures { (vs : List (List ℕ)) → Shows found.entry vs → Shows result (vs ++ value_of letter parameter.entry.now) }
+    ensures { (vs : List (List ℕ)) → Shows found.entry vs
+        → Shows result (vs ++ value_of letter parameter.entry.now) }
 {
     match first_byte(parameter) {
         Some((b, value)) => {
@@ -93,7 +95,8 @@ fn number_of(digits: &[u8]) -> Option<u32>
 
 // The number of the only parameter of a letter.
 fn only_number(found: Found<'_>) -> Option<u32>
-    ensures { (vs : List (List ℕ)) → Shows found.entry vs → result ≡ option_map capped (only_number vs) }
+    ensures { (vs : List (List ℕ)) → Shows found.entry vs
+        → result ≡ option_map capped (only_number vs) }
 {
     match found {
         Found::Once(digits) => number_of(digits),
@@ -235,7 +238,8 @@ fn ends_word(bytes: &[u8]) -> bool
 
 // What follows the magic of a stream.
 fn after_magic(bytes: &[u8]) -> Option<&[u8]>
-    ensures { MatchOption result (is_stream bytes.now ≡ false) (λ r. (is_stream bytes.now ≡ true) × (r.now ≡ drop 9 bytes.now)) }
+    ensures { MatchOption result (is_stream bytes.now ≡ false)
+        (λ r. (is_stream bytes.now ≡ true) × (r.now ≡ drop 9 bytes.now)) }
 {
     if !bytes.starts_with(b"YUV4MPEG2") {
         return None;
@@ -314,7 +318,8 @@ pub fn read_frame(
     requires width { size.width ≤ limit dim }
     requires height { size.height ≤ limit dim }
     requires extra { extra ≤ 2 ^ 62 }
-    ensures exact { map_ok frame_of result ≡ frame_at dim number size.width size.height extra bytes.now }
+    ensures exact { map_ok frame_of result
+        ≡ frame_at dim number size.width size.height extra bytes.now }
     ensures room { IfOk result (λ f. size.height * size.width ≡ length f.luma.bytes.now) }
     ensures narrow { IfOk result (λ f. f.luma.wide ≡ false) }
     ensures number { IfOk result (λ f. number < limit dim) }
@@ -356,10 +361,13 @@ fn count_frames(dim: usize, of: Stream<'_>) -> Result<usize, VoxelError>
     requires width { of.size.width ≤ limit dim }
     requires height { of.size.height ≤ limit dim }
     requires extra { of.extra ≤ 2 ^ 62 }
-    ensures count { IfOk result (λ depth. (ps : List Picture) × (frames_of dim (stream_of of.entry) ≡ Ok ps) × (length ps ≡ depth)) }
+    ensures count { IfOk result
+        (λ depth. (ps : List Picture) × (frames_of dim (stream_of of.entry) ≡ Ok ps)
+        × (length ps ≡ depth)) }
     ensures refused { IfErr result (λ e. frames_of dim (stream_of of.entry) ≡ Err e) }
     ensures few { IfOk result (λ depth. depth ≤ limit dim) }
-    ensures room { IfOk result (λ depth. depth * (of.entry.size.height * of.entry.size.width) ≤ length of.entry.rest.now) }
+    ensures room { IfOk result
+        (λ depth. depth * (of.entry.size.height * of.entry.size.width) ≤ length of.entry.rest.now) }
 {
     let mut number = 0;
     let mut rest = of.rest;
@@ -392,7 +400,8 @@ fn mark_frames(
     requires extra { of.extra ≤ 2 ^ 62 }
     ensures marked { IfOk result (λ v. (ps : List Picture) → frames_of dim (stream_of of.entry) ≡ Ok ps
         → AreMarked v.items (of.entry.size.height * of.entry.size.width) (length ps) threshold ps) }
-    ensures refused { IfErr result (λ e. (e ≡ NoMemory) ⊎ (frames_of dim (stream_of of.entry) ≡ Err e)) }
+    ensures refused { IfErr result
+        (λ e. (e ≡ NoMemory) ⊎ (frames_of dim (stream_of of.entry) ≡ Err e)) }
 {
     let count = of.size.height * of.size.width;
     let mut marks = Vec::with_capacity(alloc, depth * count.div_ceil(32))?;

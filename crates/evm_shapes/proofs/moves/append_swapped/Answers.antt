@@ -1,4 +1,4 @@
-use Rattle.std.proofs.Common.{◌∙◌, ap, ap₂, ◌+◌, ℕ, ℤ, List, sym}
+use Rattle.std.proofs.Common.{◌∙◌, ap₂, ◌+◌, ℕ, ℤ, List}
 use Rattle.std.specs.Prelude.{swap}
 use Rattle.evm_shapes.proofs.MoveSteps.{swap_done}
 use Rattle.evm_shapes.proofs.moves.append_swapped.Goals as goal

@@ -1,4 +1,4 @@
-use Rattle.std.proofs.Common.{◌∙◌, ◌≡◌, ◌<◌, ◌≤◌, ◌+◌, length, sym, get_or, []}
+use Rattle.std.proofs.Common.{◌∙◌, ◌+◌, length, sym, []}
 use Rattle.std.proofs.lemmas.Bool.{le-ltb}
 use Rattle.evm_rows.proofs.Solids.{pointwise-same}
 use Rattle.evm_shapes.proofs.Sorted.{starts_pair-at, starts_pair-last}

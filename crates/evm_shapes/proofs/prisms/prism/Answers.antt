@@ -1,11 +1,11 @@
-use Rattle.std.proofs.Common.{◌≡◌, ◌<◌, ◌≤◌, ◌-◌, ◌+◌, ◌%◌, ◌++◌, ℕ, ℤ, List, length, map, ap, ◌∙◌, subst, arith}
+use Rattle.std.proofs.Common.{◌≡◌, ◌≤◌, ◌-◌, ◌+◌, ◌%◌, ◌++◌, ℕ, ℤ, List, length, map, ap, ◌∙◌, subst, arith}
 use Rattle.evm_cells.specs.Places.{with_at}
 use Rattle.evm_cells.specs.Shapes.{lift}
 use Rattle.evm_cells.specs.Vertices.{evm, cells}
 use Rattle.evm_cells.proofs.Lifts.{cell_set-lift}
 use Rattle.evm_rows.specs.Rows.{rows_of, flat_of}
 use Rattle.evm_sections.proofs.Bits.{same32}
-use Rattle.evm_shapes.specs.Order.{IsReduced}
+use Rattle.evm_cells.specs.Windows.{IsReduced}
 use Rattle.evm_shapes.proofs.Shaped.{are_rows_of, cells_of}
 use Rattle.evm_shapes.proofs.Sliced.{ends_rows, lift_are_at}
 use Rattle.evm_shapes.proofs.prisms.prism.Goals as goal

@@ -1,5 +1,5 @@
-use Rattle.std.proofs.Common.{◌≡◌, ◌+◌, ◌-◌, ◌/◌, ◌≤◌, ◌<◌, ℕ, ℤ, List, length, suc, take, drop, ap, ap₂, ◌∙◌, sym, arith, rules, refl, subst}
-use Rattle.evm_rows.specs.Rows.{Vertices, rows_of}
+use Rattle.std.proofs.Common.{◌≡◌, ◌-◌, ◌/◌, ◌≤◌, ℕ, length, take, ap, ap₂, ◌∙◌, sym, arith, refl, subst}
+use Rattle.evm_rows.specs.Rows.{Vertices}
 use Rattle.evm_rows.specs.View.{vertices_of}
 use Rattle.evm_cells.specs.Vertices.{evm, cells, IsVertexList}
 use Rattle.evm_cells.specs.Booleans.{or_cells}

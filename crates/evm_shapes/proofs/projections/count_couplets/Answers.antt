@@ -1,4 +1,4 @@
-use Rattle.std.proofs.Common.{◌≡◌, ◌+◌, ◌≤◌, ℕ, ℤ, List, length, suc, ap, ◌∙◌, sym, arith, rules}
+use Rattle.std.proofs.Common.{◌≡◌, ◌+◌, ◌≤◌, ℤ, List, length, ap, arith, rules}
 use Rattle.evm_rows.specs.Rows.{rows_of}
 use Rattle.evm_rows.specs.View.{vertices_of}
 use Rattle.evm_rows.specs.declared.solid.Rows.{Rows}

@@ -1,4 +1,4 @@
-use Rattle.std.proofs.Common.{◌≡◌, ◌+◌, ◌-◌, ◌≤◌, ◌<◌, ℕ, ℤ, List, length, take, ap, ap₂, ◌∙◌, sym, arith}
+use Rattle.std.proofs.Common.{◌≡◌, ◌+◌, ◌-◌, ◌<◌, ℕ, ℤ, List, length, ap, ap₂, ◌∙◌, arith}
 use Rattle.evm_cells.specs.Shapes.{proj}
 use Rattle.evm_cells.specs.Vertices.{evm, cells}
 use Rattle.evm_cells.proofs.Lifts.{cell_set-proj}

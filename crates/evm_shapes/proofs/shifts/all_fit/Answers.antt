@@ -1,6 +1,6 @@
-use Rattle.std.proofs.Common.{◌≡◌, ◌-◌, ℕ, length, true, false, arith, sym}
+use Rattle.std.proofs.Common.{◌-◌, arith}
 use Rattle.evm_rows.proofs.RowsLaws.{rows_of-none}
-use Rattle.evm_shapes.proofs.Shifted.{rows_more, rows_fail, rows_pass}
+use Rattle.evm_shapes.proofs.Shifted.{rows_pass}
 use Rattle.evm_shapes.proofs.shifts.all_fit.Goals as goal
 
 pub returns : goal.returns

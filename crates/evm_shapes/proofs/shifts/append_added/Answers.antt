@@ -1,4 +1,4 @@
-use Rattle.std.proofs.Common.{arith, rules, get_or, pos, ℕ, ℤ, List, ◌+ℤ◌, ◌++◌, ◌∷◌, [], SFits, w32, w64, to_z, of_z, ◌∙◌, ◌≡◌, ◌<◌, length, ap, refl}
+use Rattle.std.proofs.Common.{arith, rules, ℕ, ℤ, ◌++◌, ◌∷◌, [], SFits, w32, to_z, of_z, ◌∙◌, ◌≡◌, ◌<◌, length, ap, refl}
 use Rattle.evm_sections.proofs.Bits.{same32}
 use Rattle.evm_shapes.proofs.Shifted.{shift_parts, same64, coord_fits, coord_32, written_more, written_all, point_coords_of}
 use Rattle.evm_shapes.proofs.shifts.append_added.Goals as goal

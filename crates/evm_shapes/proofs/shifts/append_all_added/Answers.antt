@@ -1,8 +1,6 @@
-use Rattle.std.proofs.Common.{◌≡◌, ◌-◌, ℕ, length, true, arith}
+use Rattle.std.proofs.Common.{arith}
 use Rattle.evm_rows.proofs.RowsLaws.{rows_of-none}
-use Rattle.evm_shapes.specs.Moves.{moved}
 use Rattle.evm_shapes.proofs.MoveSteps.{all_done}
-use Rattle.evm_shapes.proofs.Shifted.{first_fits}
 use Rattle.evm_shapes.proofs.shifts.append_all_added.Goals as goal
 
 pub returns : goal.returns

@@ -1,5 +1,4 @@
-use Rattle.std.proofs.Common.{◌≡◌, ◌∙◌, ℤ, pos, ◌-ℤ◌, int_le, true, false, w64, to_z, of_z, ap, sym}
-use mir.Val.{SFits}
+use Rattle.std.proofs.Common.{◌≡◌, ◌∙◌, ℤ, pos, ◌-ℤ◌, int_le, true, false}
 use Rattle.evm_shapes.proofs.Shifted.{within_low, within_no, limit_fits, same64}
 use Rattle.evm_shapes.proofs.shifts.is_within.Goals as goal
 

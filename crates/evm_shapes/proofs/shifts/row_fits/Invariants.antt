@@ -1,4 +1,4 @@
-use Rattle.std.proofs.Common.{◌≡◌, ◌<◌, drop, length}
+use Rattle.std.proofs.Common.{◌≡◌, drop, length}
 use Rattle.std.specs.List.{list_all}
 use Rattle.evm_cells.specs.Limits.{is_point, is_point_coord}
 use Rattle.evm_cells.specs.Shapes.{added}

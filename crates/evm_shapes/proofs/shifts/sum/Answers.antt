@@ -1,4 +1,4 @@
-use Rattle.std.proofs.Common.{◌≡◌, ◌+ℤ◌, ◌∙◌, ℕ, ℤ, SFits, w32, w64, get_or, pos, length, arith, rules}
+use Rattle.std.proofs.Common.{◌≡◌, ◌+ℤ◌, ◌∙◌, ℤ, SFits, w32, w64, get_or, pos, length, arith, rules}
 use Rattle.evm_sections.proofs.Bits.{same32}
 use Rattle.evm_shapes.proofs.Shifted.{shift_parts, shift_near, same64, sum_fits}
 use Rattle.evm_shapes.proofs.shifts.sum.Goals as goal

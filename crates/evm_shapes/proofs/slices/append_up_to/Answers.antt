@@ -1,4 +1,4 @@
-use Rattle.std.proofs.Common.{◌≡◌, ◌≤ℤ◌, ℤ, get_or, int_le, pos, true, rules, SFits, w32, arith, ◌∙◌}
+use Rattle.std.proofs.Common.{◌≡◌, ℤ, get_or, int_le, pos, true, rules, SFits, w32}
 use Rattle.evm_sections.proofs.Bits.{same32}
 use Rattle.evm_shapes.proofs.Sliced.{kept_row}
 use Rattle.evm_shapes.proofs.slices.append_up_to.Goals as goal

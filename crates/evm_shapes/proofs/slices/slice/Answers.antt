@@ -1,11 +1,11 @@
-use Rattle.std.proofs.Common.{◌≡◌, ◌<◌, ◌-◌, ◌+◌, ◌%◌, ◌++◌, ℕ, ℤ, List, length, ap, ◌∙◌, subst, arith, sym}
+use Rattle.std.proofs.Common.{◌≡◌, ◌<◌, ◌-◌, ◌+◌, ◌%◌, ◌++◌, ℕ, ℤ, List, length, ap, ◌∙◌, subst, arith}
 use Rattle.evm_cells.specs.Sections.{slice}
 use Rattle.evm_cells.specs.Vertices.{evm, cells}
 use Rattle.evm_cells.proofs.Slices.{cell_set-slice}
 use Rattle.evm_rows.specs.Rows.{rows_of, flat_of}
 use Rattle.evm_sections.proofs.Bits.{same32}
 use Rattle.evm_shapes.specs.Moves.{up_to}
-use Rattle.evm_shapes.specs.Order.{IsReduced}
+use Rattle.evm_cells.specs.Windows.{IsReduced}
 use Rattle.evm_shapes.proofs.Shaped.{are_rows_of, cells_of}
 use Rattle.evm_shapes.proofs.Sliced.{up_to_rows, slice_are_at}
 use Rattle.evm_shapes.proofs.slices.slice.Goals as goal

@@ -3,7 +3,7 @@ use Rattle.evm_cells.specs.Vertices.{evm, cells}
 use Rattle.evm_cells.specs.Shapes.{front}
 use Rattle.evm_cells.proofs.Lifts.{cell_set-front}
 use Rattle.evm_rows.specs.Rows.{rows_of}
-use Rattle.evm_shapes.proofs.Shaped.{front_are, are_rows_of, cells_of}
+use Rattle.evm_shapes.proofs.Shaped.{front_are, are_rows_of}
 use Rattle.evm_shapes.proofs.turns.fronted.Goals as goal
 
 pub from_rows-requires : goal.from_rows-requires

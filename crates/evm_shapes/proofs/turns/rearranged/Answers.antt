@@ -1,7 +1,7 @@
-use Rattle.std.proofs.Common.{◌≡◌, ◌-◌, ◌<◌, ◌%◌, ◌++◌, ℕ, ℤ, List, length, ap, ap₂, ◌∙◌, subst, arith, map, sym}
+use Rattle.std.proofs.Common.{◌≡◌, ◌-◌, ◌++◌, ℤ, List, ap, ◌∙◌, arith, map}
 use Rattle.evm_rows.specs.Rows.{rows_of, flat_of}
 use Rattle.evm_shapes.specs.Moves.{moved}
-use Rattle.evm_shapes.specs.Order.{IsReduced}
+use Rattle.evm_cells.specs.Windows.{IsReduced}
 use Rattle.evm_shapes.proofs.Shaped.{moved_rows}
 use Rattle.evm_shapes.proofs.turns.rearranged.Goals as goal
 

@@ -17,10 +17,10 @@ pub returns-clause-rows : goal.returns-clause-rows
 returns-clause-rows c =
     let k : c.args.d.now.dim ≡ c.self.inside.dim = c.requires ∙ sym (ap (λ (v : Vertices). v.dim) c.self.view_is) in
     xor_shown_rows c.self.inside.dim c.self.inside.root.value c.in_ok-root.root.value c.args.self.now c.args.d.now c.self.view_is c.requires
-    (xor_shown_cells c.self.inside.dim c.args.d.now.dim c.self.inside.root.value c.deref.result.now c.in_ok-root.root.value c.args.self.now c.args.d.now k refl c.deref.ensures c.self.view_is c.in_ok-root.ensures.cells)
+    (xor_shown_cells c.self.inside.dim c.args.d.now.dim c.self.inside.root.value c.self.inside.root.value c.in_ok-root.root.value c.args.self.now c.args.d.now k refl refl c.self.view_is c.in_ok-root.ensures.cells)
 
 pub returns-clause-cells : goal.returns-clause-cells
 returns-clause-cells c =
     let k : c.args.d.now.dim ≡ c.self.inside.dim = c.requires ∙ sym (ap (λ (v : Vertices). v.dim) c.self.view_is) in
     shown_cells c.self.inside.dim c.in_ok-root.root.value
-    ∙ xor_shown_cells c.self.inside.dim c.args.d.now.dim c.self.inside.root.value c.deref.result.now c.in_ok-root.root.value c.args.self.now c.args.d.now k refl c.deref.ensures c.self.view_is c.in_ok-root.ensures.cells
+    ∙ xor_shown_cells c.self.inside.dim c.args.d.now.dim c.self.inside.root.value c.self.inside.root.value c.in_ok-root.root.value c.args.self.now c.args.d.now k refl refl c.self.view_is c.in_ok-root.ensures.cells

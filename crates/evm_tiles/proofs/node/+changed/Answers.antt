@@ -1,6 +1,6 @@
 use Rattle.evm_cells.specs.Windows.{is_under, is_over}
 use Rattle.evm_cells.proofs.Sides.{two_sides, cell_set-part}
-use Rattle.std.proofs.Common.{arith, rules, ◌≡◌, ◌-◌, ◌<ℤ◌, ℕ, ℤ, List, true, pos, neg_ℤ, filter, sym, ap, ap₂, ◌∙◌, subst, ltb-true, w32, to_z, of_z, SFits}
+use Rattle.std.proofs.Common.{arith, rules, ◌≡◌, ◌-◌, ◌<ℤ◌, ℕ, ℤ, List, true, pos, neg_ℤ, filter, refl, sym, ap, ap₂, ◌∙◌, subst, ltb-true, w32, to_z, of_z, SFits}
 use Rattle.std.specs.List.{list_all}
 use Rattle.evm_cells.specs.Booleans.{xor_cells}
 use Rattle.evm_cells.specs.Limits.{limit}
@@ -9,19 +9,25 @@ use Rattle.evm_cells.proofs.Universe.{cell_set-cells}
 use Rattle.evm_rows.specs.Rows.{Vertices, cells_of}
 use Rattle.evm_rows.proofs.BoxTests.{same32}
 use Rattle.evm_tiles.specs.Splits.{IsBetween}
-use Rattle.evm_tiles.specs.Trees.{node_cells, is_well}
+use Rattle.evm_tiles.specs.Trees.{node_cells, node_count, is_well}
 use Rattle.evm_tiles.proofs.Parts.{change_first, change_second, change_both, all-xor}
 use Rattle.evm_tiles.proofs.Trees.{halves, between_of, cut_cells, leaf_dim, leaf_cells, low_smaller, high_smaller, cell_set-node}
-use Rattle.evm_tiles.proofs.node.Node.+changed.Goals as goal
+use Rattle.evm_tiles.proofs.node.+changed.Goals as goal
 
-pub both-requires : goal.both-requires
-both-requires t c =
-    sym (leaf_dim c.args.d.now.dim c.args.self.now c.in-Leaf.solid c.in-Leaf.most c.in-Leaf.is c.requires)
+pub leaf_changed-requires : goal.leaf_changed-requires
+leaf_changed-requires t c =
+    let n : ℕ = c.args.d.now.dim in
+    let w : is_well n c.deref.result.now ≡ true = ap (is_well n) c.deref.ensures ∙ c.requires in
+    record {
+      dim = leaf_dim n c.deref.result.now c.in-Leaf.solid c.in-Leaf.most c.in-Leaf.is w;
+      well = c.requires;
+      cells = ap (node_cells n) (sym c.deref.ensures) ∙ leaf_cells n c.deref.result.now c.in-Leaf.solid c.in-Leaf.most c.in-Leaf.is w;
+    }
 
 pub side_of-requires : goal.side_of-requires
 side_of-requires t c =
     let n : ℕ = c.args.d.now.dim in
-    let h = halves n c.args.self.now c.in-Cut.axis c.in-Cut.at c.in-Cut.low c.in-Cut.high c.in-Cut.is c.requires in
+    let h = halves n c.deref.result.now c.in-Cut.axis c.in-Cut.at c.in-Cut.low c.in-Cut.high c.in-Cut.is (ap (is_well n) c.deref.ensures ∙ c.requires) in
     let d : c.rows.result.width - c.rows.result.skip ≡ n = ap (λ (v : Vertices). v.dim) c.rows.ensures in
     let a = ltb-true c.in-Cut.axis n h.fits in
     omega (arith, a, d)
@@ -29,39 +35,39 @@ side_of-requires t c =
 pub changed-requires : goal.changed-requires
 changed-requires t c =
     let n : ℕ = c.args.d.now.dim in
-    let h = halves n c.args.self.now c.in-Cut.axis c.in-Cut.at c.in-Cut.low c.in-Cut.high c.in-Cut.is c.requires in
-    let f = low_smaller c.args.self.now c.deref.result.now c.in-Cut.axis c.in-Cut.at c.in-Cut.low c.in-Cut.high c.in-Cut.is c.deref.ensures in
+    let h = halves n c.deref.result.now c.in-Cut.axis c.in-Cut.at c.in-Cut.low c.in-Cut.high c.in-Cut.is (ap (is_well n) c.deref.ensures ∙ c.requires) in
+    let f = low_smaller c.deref.result.now c.in-Cut.low.value c.in-Cut.axis c.in-Cut.at c.in-Cut.low c.in-Cut.high c.in-Cut.is refl in
     let d = c.decreases in
-    (omega (arith, f, d), ap (is_well n) c.deref.ensures ∙ h.first)
+    (let g = ap node_count c.deref.ensures in omega (arith, f, d, g), h.first)
 
 pub changed-requires-in-Above : goal.changed-requires-in-Above
 changed-requires-in-Above t c =
     let n : ℕ = c.args.d.now.dim in
-    let h = halves n c.args.self.now c.in-Cut.axis c.in-Cut.at c.in-Cut.low c.in-Cut.high c.in-Cut.is c.requires in
-    let f = high_smaller c.args.self.now c.deref-in-Above.result.now c.in-Cut.axis c.in-Cut.at c.in-Cut.low c.in-Cut.high c.in-Cut.is c.deref-in-Above.ensures in
+    let h = halves n c.deref.result.now c.in-Cut.axis c.in-Cut.at c.in-Cut.low c.in-Cut.high c.in-Cut.is (ap (is_well n) c.deref.ensures ∙ c.requires) in
+    let f = high_smaller c.deref.result.now c.in-Cut.high.value c.in-Cut.axis c.in-Cut.at c.in-Cut.low c.in-Cut.high c.in-Cut.is refl in
     let d = c.decreases in
-    (omega (arith, f, d), ap (is_well n) c.deref-in-Above.ensures ∙ h.second)
+    (let g = ap node_count c.deref.ensures in omega (arith, f, d, g), h.second)
 
 pub changed-requires-in-Both : goal.changed-requires-in-Both
 changed-requires-in-Both t c =
     let n : ℕ = c.args.d.now.dim in
-    let h = halves n c.args.self.now c.in-Cut.axis c.in-Cut.at c.in-Cut.low c.in-Cut.high c.in-Cut.is c.requires in
-    let f = low_smaller c.args.self.now c.deref-in-Both.result.now c.in-Cut.axis c.in-Cut.at c.in-Cut.low c.in-Cut.high c.in-Cut.is c.deref-in-Both.ensures in
+    let h = halves n c.deref.result.now c.in-Cut.axis c.in-Cut.at c.in-Cut.low c.in-Cut.high c.in-Cut.is (ap (is_well n) c.deref.ensures ∙ c.requires) in
+    let f = low_smaller c.deref.result.now c.in-Cut.low.value c.in-Cut.axis c.in-Cut.at c.in-Cut.low c.in-Cut.high c.in-Cut.is refl in
     let d = c.decreases in
-    (omega (arith, f, d), ap (λ (m : ℕ). is_well m c.deref-in-Both.result.now) (c.in_ok-first-in-Both.ensures.dim ∙ ap (λ (v : Vertices). v.dim) c.rows-in-Both.ensures) ∙ ap (is_well n) c.deref-in-Both.ensures ∙ h.first)
+    (let g = ap node_count c.deref.ensures in omega (arith, f, d, g), ap (λ (m : ℕ). is_well m c.in-Cut.low.value) (c.in_ok-first-in-Both.ensures.dim ∙ ap (λ (v : Vertices). v.dim) c.rows-in-Both.ensures) ∙ h.first)
 
 pub changed-requires-in-Both-2 : goal.changed-requires-in-Both-2
 changed-requires-in-Both-2 t c =
     let n : ℕ = c.args.d.now.dim in
-    let h = halves n c.args.self.now c.in-Cut.axis c.in-Cut.at c.in-Cut.low c.in-Cut.high c.in-Cut.is c.requires in
-    let f = high_smaller c.args.self.now c.deref-in-Both-2.result.now c.in-Cut.axis c.in-Cut.at c.in-Cut.low c.in-Cut.high c.in-Cut.is c.deref-in-Both-2.ensures in
+    let h = halves n c.deref.result.now c.in-Cut.axis c.in-Cut.at c.in-Cut.low c.in-Cut.high c.in-Cut.is (ap (is_well n) c.deref.ensures ∙ c.requires) in
+    let f = high_smaller c.deref.result.now c.in-Cut.high.value c.in-Cut.axis c.in-Cut.at c.in-Cut.low c.in-Cut.high c.in-Cut.is refl in
     let d = c.decreases in
-    (omega (arith, f, d), ap (λ (m : ℕ). is_well m c.deref-in-Both-2.result.now) (c.in_ok-second-in-Both.ensures.dim ∙ ap (λ (v : Vertices). v.dim) c.rows-in-Both-2.ensures) ∙ ap (is_well n) c.deref-in-Both-2.ensures ∙ h.second)
+    (let g = ap node_count c.deref.ensures in omega (arith, f, d, g), ap (λ (m : ℕ). is_well m c.in-Cut.high.value) (c.in_ok-second-in-Both.ensures.dim ∙ ap (λ (v : Vertices). v.dim) c.rows-in-Both-2.ensures) ∙ h.second)
 
 pub joined-requires-clause-between : goal.joined-requires-clause-between
 joined-requires-clause-between t c =
     let n : ℕ = c.args.d.now.dim in
-    let h = halves n c.args.self.now c.in-Cut.axis c.in-Cut.at c.in-Cut.low c.in-Cut.high c.in-Cut.is c.requires in
+    let h = halves n c.deref.result.now c.in-Cut.axis c.in-Cut.at c.in-Cut.low c.in-Cut.high c.in-Cut.is (ap (is_well n) c.deref.ensures ∙ c.requires) in
     let fa : SFits w32 c.in-Cut.at = search rules in
     let z : ℤ = to_z w32 (of_z w32 c.in-Cut.at) in
     let e : z ≡ c.in-Cut.at = same32 c.in-Cut.at fa in
@@ -71,7 +77,7 @@ joined-requires-clause-between t c =
 pub joined-requires-in-Above-clause-between : goal.joined-requires-in-Above-clause-between
 joined-requires-in-Above-clause-between t c =
     let n : ℕ = c.args.d.now.dim in
-    let h = halves n c.args.self.now c.in-Cut.axis c.in-Cut.at c.in-Cut.low c.in-Cut.high c.in-Cut.is c.requires in
+    let h = halves n c.deref.result.now c.in-Cut.axis c.in-Cut.at c.in-Cut.low c.in-Cut.high c.in-Cut.is (ap (is_well n) c.deref.ensures ∙ c.requires) in
     let fa : SFits w32 c.in-Cut.at = search rules in
     let z : ℤ = to_z w32 (of_z w32 c.in-Cut.at) in
     let e : z ≡ c.in-Cut.at = same32 c.in-Cut.at fa in
@@ -81,7 +87,7 @@ joined-requires-in-Above-clause-between t c =
 pub joined-requires-in-Both-clause-between : goal.joined-requires-in-Both-clause-between
 joined-requires-in-Both-clause-between t c =
     let n : ℕ = c.args.d.now.dim in
-    let h = halves n c.args.self.now c.in-Cut.axis c.in-Cut.at c.in-Cut.low c.in-Cut.high c.in-Cut.is c.requires in
+    let h = halves n c.deref.result.now c.in-Cut.axis c.in-Cut.at c.in-Cut.low c.in-Cut.high c.in-Cut.is (ap (is_well n) c.deref.ensures ∙ c.requires) in
     let fa : SFits w32 c.in-Cut.at = search rules in
     let z : ℤ = to_z w32 (of_z w32 c.in-Cut.at) in
     let e : z ≡ c.in-Cut.at = same32 c.in-Cut.at fa in
@@ -91,7 +97,7 @@ joined-requires-in-Both-clause-between t c =
 pub joined-requires-clause-under : goal.joined-requires-clause-under
 joined-requires-clause-under t c =
     let n : ℕ = c.args.d.now.dim in
-    let h = halves n c.args.self.now c.in-Cut.axis c.in-Cut.at c.in-Cut.low c.in-Cut.high c.in-Cut.is c.requires in
+    let h = halves n c.deref.result.now c.in-Cut.axis c.in-Cut.at c.in-Cut.low c.in-Cut.high c.in-Cut.is (ap (is_well n) c.deref.ensures ∙ c.requires) in
     let fa : SFits w32 c.in-Cut.at = search rules in
     let z : ℤ = to_z w32 (of_z w32 c.in-Cut.at) in
     let e : z ≡ c.in-Cut.at = same32 c.in-Cut.at fa in
@@ -102,12 +108,12 @@ joined-requires-clause-under t c =
     ap (λ (y : ℤ). list_all (is_under c.in-Cut.axis y) D) (sym e) ∙ ap (λ (v : Vertices). list_all (is_under c.in-Cut.axis z) (cells_of v)) (sym c.rows.ensures) ∙ c.in-Below.ensures in
     ap (λ (m : ℕ). list_all (is_under c.in-Cut.axis z) (node_cells m c.in_ok-below-in-Below.below.value)) c.dim.ensures
     ∙ ap (λ (y : ℤ). list_all (is_under c.in-Cut.axis y) (node_cells n c.in_ok-below-in-Below.below.value)) e
-    ∙ ap (list_all (is_under c.in-Cut.axis c.in-Cut.at)) (c.in_ok-below-in-Below.ensures.cells ∙ ap (λ y. xor_cells n (node_cells n y) D) c.deref.ensures) ∙ all-xor n (is_under c.in-Cut.axis c.in-Cut.at) A D (cell_set-node n c.in-Cut.low.value) (cell_set-cells n c.args.d.now.rows) h.under side
+    ∙ ap (list_all (is_under c.in-Cut.axis c.in-Cut.at)) (c.in_ok-below-in-Below.ensures.cells ∙ ap (λ y. xor_cells n (node_cells n y) D) refl) ∙ all-xor n (is_under c.in-Cut.axis c.in-Cut.at) A D (cell_set-node n c.in-Cut.low.value) (cell_set-cells n c.args.d.now.rows) h.under side
 
 pub joined-requires-clause-over : goal.joined-requires-clause-over
 joined-requires-clause-over t c =
     let n : ℕ = c.args.d.now.dim in
-    let h = halves n c.args.self.now c.in-Cut.axis c.in-Cut.at c.in-Cut.low c.in-Cut.high c.in-Cut.is c.requires in
+    let h = halves n c.deref.result.now c.in-Cut.axis c.in-Cut.at c.in-Cut.low c.in-Cut.high c.in-Cut.is (ap (is_well n) c.deref.ensures ∙ c.requires) in
     let fa : SFits w32 c.in-Cut.at = search rules in
     let z : ℤ = to_z w32 (of_z w32 c.in-Cut.at) in
     let e : z ≡ c.in-Cut.at = same32 c.in-Cut.at fa in
@@ -118,13 +124,13 @@ joined-requires-clause-over t c =
 pub joined-requires-clause-high : goal.joined-requires-clause-high
 joined-requires-clause-high t c =
     let n : ℕ = c.args.d.now.dim in
-    let h = halves n c.args.self.now c.in-Cut.axis c.in-Cut.at c.in-Cut.low c.in-Cut.high c.in-Cut.is c.requires in
+    let h = halves n c.deref.result.now c.in-Cut.axis c.in-Cut.at c.in-Cut.low c.in-Cut.high c.in-Cut.is (ap (is_well n) c.deref.ensures ∙ c.requires) in
     ap (λ (m : ℕ). is_well m c.in_ok-above-in-Below.above.value) c.dim.ensures ∙ ap (is_well n) c.in_ok-above-in-Below.ensures.cases ∙ h.second
 
 pub joined-requires-in-Above-clause-under : goal.joined-requires-in-Above-clause-under
 joined-requires-in-Above-clause-under t c =
     let n : ℕ = c.args.d.now.dim in
-    let h = halves n c.args.self.now c.in-Cut.axis c.in-Cut.at c.in-Cut.low c.in-Cut.high c.in-Cut.is c.requires in
+    let h = halves n c.deref.result.now c.in-Cut.axis c.in-Cut.at c.in-Cut.low c.in-Cut.high c.in-Cut.is (ap (is_well n) c.deref.ensures ∙ c.requires) in
     let fa : SFits w32 c.in-Cut.at = search rules in
     let z : ℤ = to_z w32 (of_z w32 c.in-Cut.at) in
     let e : z ≡ c.in-Cut.at = same32 c.in-Cut.at fa in
@@ -135,13 +141,13 @@ joined-requires-in-Above-clause-under t c =
 pub joined-requires-in-Above-clause-low : goal.joined-requires-in-Above-clause-low
 joined-requires-in-Above-clause-low t c =
     let n : ℕ = c.args.d.now.dim in
-    let h = halves n c.args.self.now c.in-Cut.axis c.in-Cut.at c.in-Cut.low c.in-Cut.high c.in-Cut.is c.requires in
+    let h = halves n c.deref.result.now c.in-Cut.axis c.in-Cut.at c.in-Cut.low c.in-Cut.high c.in-Cut.is (ap (is_well n) c.deref.ensures ∙ c.requires) in
     ap (λ (m : ℕ). is_well m c.in_ok-below-in-Above.below.value) c.dim-in-Above.ensures ∙ ap (is_well n) c.in_ok-below-in-Above.ensures.cases ∙ h.first
 
 pub joined-requires-in-Above-clause-over : goal.joined-requires-in-Above-clause-over
 joined-requires-in-Above-clause-over t c =
     let n : ℕ = c.args.d.now.dim in
-    let h = halves n c.args.self.now c.in-Cut.axis c.in-Cut.at c.in-Cut.low c.in-Cut.high c.in-Cut.is c.requires in
+    let h = halves n c.deref.result.now c.in-Cut.axis c.in-Cut.at c.in-Cut.low c.in-Cut.high c.in-Cut.is (ap (is_well n) c.deref.ensures ∙ c.requires) in
     let fa : SFits w32 c.in-Cut.at = search rules in
     let z : ℤ = to_z w32 (of_z w32 c.in-Cut.at) in
     let e : z ≡ c.in-Cut.at = same32 c.in-Cut.at fa in
@@ -152,12 +158,12 @@ joined-requires-in-Above-clause-over t c =
     ap (λ (y : ℤ). list_all (is_over c.in-Cut.axis y) D) (sym e) ∙ ap (λ (v : Vertices). list_all (is_over c.in-Cut.axis z) (cells_of v)) (sym c.rows.ensures) ∙ c.in-Above.ensures in
     ap (λ (m : ℕ). list_all (is_over c.in-Cut.axis z) (node_cells m c.in_ok-above-in-Above.above.value)) c.dim-in-Above.ensures
     ∙ ap (λ (y : ℤ). list_all (is_over c.in-Cut.axis y) (node_cells n c.in_ok-above-in-Above.above.value)) e
-    ∙ ap (list_all (is_over c.in-Cut.axis c.in-Cut.at)) (c.in_ok-above-in-Above.ensures.cells ∙ ap (λ y. xor_cells n (node_cells n y) D) c.deref-in-Above.ensures) ∙ all-xor n (is_over c.in-Cut.axis c.in-Cut.at) B D (cell_set-node n c.in-Cut.high.value) (cell_set-cells n c.args.d.now.rows) h.over side
+    ∙ ap (list_all (is_over c.in-Cut.axis c.in-Cut.at)) (c.in_ok-above-in-Above.ensures.cells ∙ ap (λ y. xor_cells n (node_cells n y) D) refl) ∙ all-xor n (is_over c.in-Cut.axis c.in-Cut.at) B D (cell_set-node n c.in-Cut.high.value) (cell_set-cells n c.args.d.now.rows) h.over side
 
 pub under-requires-clause-axis : goal.under-requires-clause-axis
 under-requires-clause-axis t c =
     let n : ℕ = c.args.d.now.dim in
-    let h = halves n c.args.self.now c.in-Cut.axis c.in-Cut.at c.in-Cut.low c.in-Cut.high c.in-Cut.is c.requires in
+    let h = halves n c.deref.result.now c.in-Cut.axis c.in-Cut.at c.in-Cut.low c.in-Cut.high c.in-Cut.is (ap (is_well n) c.deref.ensures ∙ c.requires) in
     let d : c.rows-in-Both.result.width - c.rows-in-Both.result.skip ≡ n = ap (λ (v : Vertices). v.dim) c.rows-in-Both.ensures in
     let a = ltb-true c.in-Cut.axis n h.fits in
     omega (arith, a, d)
@@ -165,7 +171,7 @@ under-requires-clause-axis t c =
 pub under-requires-clause-low : goal.under-requires-clause-low
 under-requires-clause-low t c =
     let n : ℕ = c.args.d.now.dim in
-    let h = halves n c.args.self.now c.in-Cut.axis c.in-Cut.at c.in-Cut.low c.in-Cut.high c.in-Cut.is c.requires in
+    let h = halves n c.deref.result.now c.in-Cut.axis c.in-Cut.at c.in-Cut.low c.in-Cut.high c.in-Cut.is (ap (is_well n) c.deref.ensures ∙ c.requires) in
     let fa : SFits w32 c.in-Cut.at = search rules in
     let z : ℤ = to_z w32 (of_z w32 c.in-Cut.at) in
     let e : z ≡ c.in-Cut.at = same32 c.in-Cut.at fa in
@@ -176,7 +182,7 @@ under-requires-clause-low t c =
 pub under-requires-clause-high : goal.under-requires-clause-high
 under-requires-clause-high t c =
     let n : ℕ = c.args.d.now.dim in
-    let h = halves n c.args.self.now c.in-Cut.axis c.in-Cut.at c.in-Cut.low c.in-Cut.high c.in-Cut.is c.requires in
+    let h = halves n c.deref.result.now c.in-Cut.axis c.in-Cut.at c.in-Cut.low c.in-Cut.high c.in-Cut.is (ap (is_well n) c.deref.ensures ∙ c.requires) in
     let fa : SFits w32 c.in-Cut.at = search rules in
     let z : ℤ = to_z w32 (of_z w32 c.in-Cut.at) in
     let e : z ≡ c.in-Cut.at = same32 c.in-Cut.at fa in
@@ -187,7 +193,7 @@ under-requires-clause-high t c =
 pub over-requires-clause-axis : goal.over-requires-clause-axis
 over-requires-clause-axis t c =
     let n : ℕ = c.args.d.now.dim in
-    let h = halves n c.args.self.now c.in-Cut.axis c.in-Cut.at c.in-Cut.low c.in-Cut.high c.in-Cut.is c.requires in
+    let h = halves n c.deref.result.now c.in-Cut.axis c.in-Cut.at c.in-Cut.low c.in-Cut.high c.in-Cut.is (ap (is_well n) c.deref.ensures ∙ c.requires) in
     let d : c.rows-in-Both-2.result.width - c.rows-in-Both-2.result.skip ≡ n = ap (λ (v : Vertices). v.dim) c.rows-in-Both-2.ensures in
     let a = ltb-true c.in-Cut.axis n h.fits in
     omega (arith, a, d)
@@ -195,7 +201,7 @@ over-requires-clause-axis t c =
 pub over-requires-clause-low : goal.over-requires-clause-low
 over-requires-clause-low t c =
     let n : ℕ = c.args.d.now.dim in
-    let h = halves n c.args.self.now c.in-Cut.axis c.in-Cut.at c.in-Cut.low c.in-Cut.high c.in-Cut.is c.requires in
+    let h = halves n c.deref.result.now c.in-Cut.axis c.in-Cut.at c.in-Cut.low c.in-Cut.high c.in-Cut.is (ap (is_well n) c.deref.ensures ∙ c.requires) in
     let fa : SFits w32 c.in-Cut.at = search rules in
     let z : ℤ = to_z w32 (of_z w32 c.in-Cut.at) in
     let e : z ≡ c.in-Cut.at = same32 c.in-Cut.at fa in
@@ -206,7 +212,7 @@ over-requires-clause-low t c =
 pub over-requires-clause-high : goal.over-requires-clause-high
 over-requires-clause-high t c =
     let n : ℕ = c.args.d.now.dim in
-    let h = halves n c.args.self.now c.in-Cut.axis c.in-Cut.at c.in-Cut.low c.in-Cut.high c.in-Cut.is c.requires in
+    let h = halves n c.deref.result.now c.in-Cut.axis c.in-Cut.at c.in-Cut.low c.in-Cut.high c.in-Cut.is (ap (is_well n) c.deref.ensures ∙ c.requires) in
     let fa : SFits w32 c.in-Cut.at = search rules in
     let z : ℤ = to_z w32 (of_z w32 c.in-Cut.at) in
     let e : z ≡ c.in-Cut.at = same32 c.in-Cut.at fa in
@@ -217,7 +223,7 @@ over-requires-clause-high t c =
 pub joined-requires-in-Both-clause-under : goal.joined-requires-in-Both-clause-under
 joined-requires-in-Both-clause-under t c =
     let n : ℕ = c.args.d.now.dim in
-    let h = halves n c.args.self.now c.in-Cut.axis c.in-Cut.at c.in-Cut.low c.in-Cut.high c.in-Cut.is c.requires in
+    let h = halves n c.deref.result.now c.in-Cut.axis c.in-Cut.at c.in-Cut.low c.in-Cut.high c.in-Cut.is (ap (is_well n) c.deref.ensures ∙ c.requires) in
     let fa : SFits w32 c.in-Cut.at = search rules in
     let z : ℤ = to_z w32 (of_z w32 c.in-Cut.at) in
     let e : z ≡ c.in-Cut.at = same32 c.in-Cut.at fa in
@@ -226,8 +232,8 @@ joined-requires-in-Both-clause-under t c =
     let D : List (List ℤ) = cells_of c.args.d.now in
     let F : List (List ℤ) = filter (is_under c.in-Cut.axis c.in-Cut.at) D in
     let G : List (List ℤ) = filter (is_over c.in-Cut.axis c.in-Cut.at) D in
-    let q : node_cells n c.in_ok-below-in-Both.below.value ≡ xor_cells n A F = sym (ap (λ (m : ℕ). node_cells m c.in_ok-below-in-Both.below.value) (c.in_ok-first-in-Both.ensures.dim ∙ ap (λ (v : Vertices). v.dim) c.rows-in-Both.ensures)) ∙ c.in_ok-below-in-Both.ensures.cells ∙ ap (λ (m : ℕ). xor_cells m (node_cells m c.deref-in-Both.result.now) (cells_of c.in_ok-first-in-Both.first)) (c.in_ok-first-in-Both.ensures.dim ∙ ap (λ (v : Vertices). v.dim) c.rows-in-Both.ensures)
-    ∙ ap₂ (λ X Y. xor_cells n X Y) (ap (node_cells n) c.deref-in-Both.ensures) (c.in_ok-first-in-Both.ensures.cells ∙ ap (λ (v : Vertices). filter (is_under c.in-Cut.axis z) (cells_of v)) c.rows-in-Both.ensures ∙ ap (λ (y : ℤ). filter (is_under c.in-Cut.axis y) D) e) in
+    let q : node_cells n c.in_ok-below-in-Both.below.value ≡ xor_cells n A F = sym (ap (λ (m : ℕ). node_cells m c.in_ok-below-in-Both.below.value) (c.in_ok-first-in-Both.ensures.dim ∙ ap (λ (v : Vertices). v.dim) c.rows-in-Both.ensures)) ∙ c.in_ok-below-in-Both.ensures.cells ∙ ap (λ (m : ℕ). xor_cells m (node_cells m c.in-Cut.low.value) (cells_of c.in_ok-first-in-Both.first)) (c.in_ok-first-in-Both.ensures.dim ∙ ap (λ (v : Vertices). v.dim) c.rows-in-Both.ensures)
+    ∙ ap₂ (λ X Y. xor_cells n X Y) refl (c.in_ok-first-in-Both.ensures.cells ∙ ap (λ (v : Vertices). filter (is_under c.in-Cut.axis z) (cells_of v)) c.rows-in-Both.ensures ∙ ap (λ (y : ℤ). filter (is_under c.in-Cut.axis y) D) e) in
     ap (λ (m : ℕ). list_all (is_under c.in-Cut.axis z) (node_cells m c.in_ok-below-in-Both.below.value)) c.dim-in-Both.ensures
     ∙ ap (λ (y : ℤ). list_all (is_under c.in-Cut.axis y) (node_cells n c.in_ok-below-in-Both.below.value)) e
     ∙ ap (list_all (is_under c.in-Cut.axis c.in-Cut.at)) q ∙ all-xor n (is_under c.in-Cut.axis c.in-Cut.at) A F (cell_set-node n c.in-Cut.low.value) (cell_set-part n (is_under c.in-Cut.axis c.in-Cut.at) D (cell_set-cells n c.args.d.now.rows)) h.under (filter_all (is_under c.in-Cut.axis c.in-Cut.at) D)
@@ -235,7 +241,7 @@ joined-requires-in-Both-clause-under t c =
 pub joined-requires-in-Both-clause-over : goal.joined-requires-in-Both-clause-over
 joined-requires-in-Both-clause-over t c =
     let n : ℕ = c.args.d.now.dim in
-    let h = halves n c.args.self.now c.in-Cut.axis c.in-Cut.at c.in-Cut.low c.in-Cut.high c.in-Cut.is c.requires in
+    let h = halves n c.deref.result.now c.in-Cut.axis c.in-Cut.at c.in-Cut.low c.in-Cut.high c.in-Cut.is (ap (is_well n) c.deref.ensures ∙ c.requires) in
     let fa : SFits w32 c.in-Cut.at = search rules in
     let z : ℤ = to_z w32 (of_z w32 c.in-Cut.at) in
     let e : z ≡ c.in-Cut.at = same32 c.in-Cut.at fa in
@@ -244,21 +250,11 @@ joined-requires-in-Both-clause-over t c =
     let D : List (List ℤ) = cells_of c.args.d.now in
     let F : List (List ℤ) = filter (is_under c.in-Cut.axis c.in-Cut.at) D in
     let G : List (List ℤ) = filter (is_over c.in-Cut.axis c.in-Cut.at) D in
-    let q : node_cells n c.in_ok-above-in-Both.above.value ≡ xor_cells n B G = sym (ap (λ (m : ℕ). node_cells m c.in_ok-above-in-Both.above.value) (c.in_ok-second-in-Both.ensures.dim ∙ ap (λ (v : Vertices). v.dim) c.rows-in-Both-2.ensures)) ∙ c.in_ok-above-in-Both.ensures.cells ∙ ap (λ (m : ℕ). xor_cells m (node_cells m c.deref-in-Both-2.result.now) (cells_of c.in_ok-second-in-Both.second)) (c.in_ok-second-in-Both.ensures.dim ∙ ap (λ (v : Vertices). v.dim) c.rows-in-Both-2.ensures)
-    ∙ ap₂ (λ X Y. xor_cells n X Y) (ap (node_cells n) c.deref-in-Both-2.ensures) (c.in_ok-second-in-Both.ensures.cells ∙ ap (λ (v : Vertices). filter (is_over c.in-Cut.axis z) (cells_of v)) c.rows-in-Both-2.ensures ∙ ap (λ (y : ℤ). filter (is_over c.in-Cut.axis y) D) e) in
+    let q : node_cells n c.in_ok-above-in-Both.above.value ≡ xor_cells n B G = sym (ap (λ (m : ℕ). node_cells m c.in_ok-above-in-Both.above.value) (c.in_ok-second-in-Both.ensures.dim ∙ ap (λ (v : Vertices). v.dim) c.rows-in-Both-2.ensures)) ∙ c.in_ok-above-in-Both.ensures.cells ∙ ap (λ (m : ℕ). xor_cells m (node_cells m c.in-Cut.high.value) (cells_of c.in_ok-second-in-Both.second)) (c.in_ok-second-in-Both.ensures.dim ∙ ap (λ (v : Vertices). v.dim) c.rows-in-Both-2.ensures)
+    ∙ ap₂ (λ X Y. xor_cells n X Y) refl (c.in_ok-second-in-Both.ensures.cells ∙ ap (λ (v : Vertices). filter (is_over c.in-Cut.axis z) (cells_of v)) c.rows-in-Both-2.ensures ∙ ap (λ (y : ℤ). filter (is_over c.in-Cut.axis y) D) e) in
     ap (λ (m : ℕ). list_all (is_over c.in-Cut.axis z) (node_cells m c.in_ok-above-in-Both.above.value)) c.dim-in-Both.ensures
     ∙ ap (λ (y : ℤ). list_all (is_over c.in-Cut.axis y) (node_cells n c.in_ok-above-in-Both.above.value)) e
     ∙ ap (list_all (is_over c.in-Cut.axis c.in-Cut.at)) q ∙ all-xor n (is_over c.in-Cut.axis c.in-Cut.at) B G (cell_set-node n c.in-Cut.high.value) (cell_set-part n (is_over c.in-Cut.axis c.in-Cut.at) D (cell_set-cells n c.args.d.now.rows)) h.over (filter_all (is_over c.in-Cut.axis c.in-Cut.at) D)
-
-pub returns-in_ok-node-in-Leaf-clause-well : goal.returns-in_ok-node-in-Leaf-clause-well
-returns-in_ok-node-in-Leaf-clause-well t c =
-    ap (λ (m : ℕ). is_well m c.in_ok-node-in-Leaf.node.value) (sym (c.in_ok-all-in-Leaf.ensures.dim ∙ leaf_dim c.args.d.now.dim c.args.self.now c.in-Leaf.solid c.in-Leaf.most c.in-Leaf.is c.requires)) ∙ c.in_ok-node-in-Leaf.ensures.well
-
-pub returns-in_ok-node-in-Leaf-clause-cells : goal.returns-in_ok-node-in-Leaf-clause-cells
-returns-in_ok-node-in-Leaf-clause-cells t c =
-    ap (λ (m : ℕ). node_cells m c.in_ok-node-in-Leaf.node.value) (sym (c.in_ok-all-in-Leaf.ensures.dim ∙ leaf_dim c.args.d.now.dim c.args.self.now c.in-Leaf.solid c.in-Leaf.most c.in-Leaf.is c.requires)) ∙ c.in_ok-node-in-Leaf.ensures.cells
-    ∙ c.in_ok-all-in-Leaf.ensures.cells ∙ ap (λ (m : ℕ). xor_cells m (cells_of c.in-Leaf.solid) (cells_of c.args.d.now)) (leaf_dim c.args.d.now.dim c.args.self.now c.in-Leaf.solid c.in-Leaf.most c.in-Leaf.is c.requires)
-    ∙ ap (λ X. xor_cells c.args.d.now.dim X (cells_of c.args.d.now)) (sym (leaf_cells c.args.d.now.dim c.args.self.now c.in-Leaf.solid c.in-Leaf.most c.in-Leaf.is c.requires))
 
 pub returns-in_ok-node-in-Below-clause-cells : goal.returns-in_ok-node-in-Below-clause-cells
 returns-in_ok-node-in-Below-clause-cells t c =
@@ -268,9 +264,9 @@ returns-in_ok-node-in-Below-clause-cells t c =
     let D : List (List ℤ) = cells_of c.args.d.now in
     sym (ap (λ (m : ℕ). node_cells m c.in_ok-node-in-Below.node.value) c.dim.ensures) ∙ c.in_ok-node-in-Below.ensures.cells
     ∙ ap (λ (m : ℕ). xor_cells m (node_cells m c.in_ok-below-in-Below.below.value) (node_cells m c.in_ok-above-in-Below.above.value)) c.dim.ensures
-    ∙ ap₂ (λ X Y. xor_cells n X Y) (c.in_ok-below-in-Below.ensures.cells ∙ ap (λ y. xor_cells n (node_cells n y) D) c.deref.ensures) (ap (node_cells n) c.in_ok-above-in-Below.ensures.cases)
+    ∙ ap₂ (λ X Y. xor_cells n X Y) (c.in_ok-below-in-Below.ensures.cells ∙ ap (λ y. xor_cells n (node_cells n y) D) refl) (ap (node_cells n) c.in_ok-above-in-Below.ensures.cases)
     ∙ change_first n A B D (cell_set-node n c.in-Cut.low.value) (cell_set-node n c.in-Cut.high.value) (cell_set-cells n c.args.d.now.rows)
-    ∙ ap (λ X. xor_cells n X D) (sym (cut_cells n c.args.self.now c.in-Cut.axis c.in-Cut.at c.in-Cut.low c.in-Cut.high c.in-Cut.is))
+    ∙ ap (λ X. xor_cells n X D) (sym (cut_cells n c.deref.result.now c.in-Cut.axis c.in-Cut.at c.in-Cut.low c.in-Cut.high c.in-Cut.is) ∙ ap (node_cells n) c.deref.ensures)
 
 pub returns-in_ok-node-in-Above-clause-cells : goal.returns-in_ok-node-in-Above-clause-cells
 returns-in_ok-node-in-Above-clause-cells t c =
@@ -280,9 +276,9 @@ returns-in_ok-node-in-Above-clause-cells t c =
     let D : List (List ℤ) = cells_of c.args.d.now in
     sym (ap (λ (m : ℕ). node_cells m c.in_ok-node-in-Above.node.value) c.dim-in-Above.ensures) ∙ c.in_ok-node-in-Above.ensures.cells
     ∙ ap (λ (m : ℕ). xor_cells m (node_cells m c.in_ok-below-in-Above.below.value) (node_cells m c.in_ok-above-in-Above.above.value)) c.dim-in-Above.ensures
-    ∙ ap₂ (λ X Y. xor_cells n X Y) (ap (node_cells n) c.in_ok-below-in-Above.ensures.cases) (c.in_ok-above-in-Above.ensures.cells ∙ ap (λ y. xor_cells n (node_cells n y) D) c.deref-in-Above.ensures)
+    ∙ ap₂ (λ X Y. xor_cells n X Y) (ap (node_cells n) c.in_ok-below-in-Above.ensures.cases) (c.in_ok-above-in-Above.ensures.cells ∙ ap (λ y. xor_cells n (node_cells n y) D) refl)
     ∙ change_second n A B D (cell_set-node n c.in-Cut.low.value) (cell_set-node n c.in-Cut.high.value) (cell_set-cells n c.args.d.now.rows)
-    ∙ ap (λ X. xor_cells n X D) (sym (cut_cells n c.args.self.now c.in-Cut.axis c.in-Cut.at c.in-Cut.low c.in-Cut.high c.in-Cut.is))
+    ∙ ap (λ X. xor_cells n X D) (sym (cut_cells n c.deref.result.now c.in-Cut.axis c.in-Cut.at c.in-Cut.low c.in-Cut.high c.in-Cut.is) ∙ ap (node_cells n) c.deref.ensures)
 
 pub returns-in_ok-node-in-Both-clause-cells : goal.returns-in_ok-node-in-Both-clause-cells
 returns-in_ok-node-in-Both-clause-cells t c =
@@ -296,12 +292,12 @@ returns-in_ok-node-in-Both-clause-cells t c =
     let F : List (List ℤ) = filter (is_under c.in-Cut.axis c.in-Cut.at) D in
     let G : List (List ℤ) = filter (is_over c.in-Cut.axis c.in-Cut.at) D in
     let D_set = cell_set-cells n c.args.d.now.rows in
-    let q : node_cells n c.in_ok-below-in-Both.below.value ≡ xor_cells n A F = sym (ap (λ (m : ℕ). node_cells m c.in_ok-below-in-Both.below.value) (c.in_ok-first-in-Both.ensures.dim ∙ ap (λ (v : Vertices). v.dim) c.rows-in-Both.ensures)) ∙ c.in_ok-below-in-Both.ensures.cells ∙ ap (λ (m : ℕ). xor_cells m (node_cells m c.deref-in-Both.result.now) (cells_of c.in_ok-first-in-Both.first)) (c.in_ok-first-in-Both.ensures.dim ∙ ap (λ (v : Vertices). v.dim) c.rows-in-Both.ensures)
-    ∙ ap₂ (λ X Y. xor_cells n X Y) (ap (node_cells n) c.deref-in-Both.ensures) (c.in_ok-first-in-Both.ensures.cells ∙ ap (λ (v : Vertices). filter (is_under c.in-Cut.axis z) (cells_of v)) c.rows-in-Both.ensures ∙ ap (λ (y : ℤ). filter (is_under c.in-Cut.axis y) D) e) in
-    let r : node_cells n c.in_ok-above-in-Both.above.value ≡ xor_cells n B G = sym (ap (λ (m : ℕ). node_cells m c.in_ok-above-in-Both.above.value) (c.in_ok-second-in-Both.ensures.dim ∙ ap (λ (v : Vertices). v.dim) c.rows-in-Both-2.ensures)) ∙ c.in_ok-above-in-Both.ensures.cells ∙ ap (λ (m : ℕ). xor_cells m (node_cells m c.deref-in-Both-2.result.now) (cells_of c.in_ok-second-in-Both.second)) (c.in_ok-second-in-Both.ensures.dim ∙ ap (λ (v : Vertices). v.dim) c.rows-in-Both-2.ensures)
-    ∙ ap₂ (λ X Y. xor_cells n X Y) (ap (node_cells n) c.deref-in-Both-2.ensures) (c.in_ok-second-in-Both.ensures.cells ∙ ap (λ (v : Vertices). filter (is_over c.in-Cut.axis z) (cells_of v)) c.rows-in-Both-2.ensures ∙ ap (λ (y : ℤ). filter (is_over c.in-Cut.axis y) D) e) in
+    let q : node_cells n c.in_ok-below-in-Both.below.value ≡ xor_cells n A F = sym (ap (λ (m : ℕ). node_cells m c.in_ok-below-in-Both.below.value) (c.in_ok-first-in-Both.ensures.dim ∙ ap (λ (v : Vertices). v.dim) c.rows-in-Both.ensures)) ∙ c.in_ok-below-in-Both.ensures.cells ∙ ap (λ (m : ℕ). xor_cells m (node_cells m c.in-Cut.low.value) (cells_of c.in_ok-first-in-Both.first)) (c.in_ok-first-in-Both.ensures.dim ∙ ap (λ (v : Vertices). v.dim) c.rows-in-Both.ensures)
+    ∙ ap₂ (λ X Y. xor_cells n X Y) refl (c.in_ok-first-in-Both.ensures.cells ∙ ap (λ (v : Vertices). filter (is_under c.in-Cut.axis z) (cells_of v)) c.rows-in-Both.ensures ∙ ap (λ (y : ℤ). filter (is_under c.in-Cut.axis y) D) e) in
+    let r : node_cells n c.in_ok-above-in-Both.above.value ≡ xor_cells n B G = sym (ap (λ (m : ℕ). node_cells m c.in_ok-above-in-Both.above.value) (c.in_ok-second-in-Both.ensures.dim ∙ ap (λ (v : Vertices). v.dim) c.rows-in-Both-2.ensures)) ∙ c.in_ok-above-in-Both.ensures.cells ∙ ap (λ (m : ℕ). xor_cells m (node_cells m c.in-Cut.high.value) (cells_of c.in_ok-second-in-Both.second)) (c.in_ok-second-in-Both.ensures.dim ∙ ap (λ (v : Vertices). v.dim) c.rows-in-Both-2.ensures)
+    ∙ ap₂ (λ X Y. xor_cells n X Y) refl (c.in_ok-second-in-Both.ensures.cells ∙ ap (λ (v : Vertices). filter (is_over c.in-Cut.axis z) (cells_of v)) c.rows-in-Both-2.ensures ∙ ap (λ (y : ℤ). filter (is_over c.in-Cut.axis y) D) e) in
     sym (ap (λ (m : ℕ). node_cells m c.in_ok-node-in-Both.node.value) c.dim-in-Both.ensures) ∙ c.in_ok-node-in-Both.ensures.cells
     ∙ ap (λ (m : ℕ). xor_cells m (node_cells m c.in_ok-below-in-Both.below.value) (node_cells m c.in_ok-above-in-Both.above.value)) c.dim-in-Both.ensures
     ∙ ap₂ (λ X Y. xor_cells n X Y) (q) (r)
     ∙ change_both n A B F G (cell_set-node n c.in-Cut.low.value) (cell_set-node n c.in-Cut.high.value) (cell_set-part n (is_under c.in-Cut.axis c.in-Cut.at) D D_set) (cell_set-part n (is_over c.in-Cut.axis c.in-Cut.at) D D_set) ∙ ap (λ X. xor_cells n (xor_cells n A B) X) (two_sides n c.in-Cut.axis c.in-Cut.at D D_set)
-    ∙ ap (λ X. xor_cells n X D) (sym (cut_cells n c.args.self.now c.in-Cut.axis c.in-Cut.at c.in-Cut.low c.in-Cut.high c.in-Cut.is))
+    ∙ ap (λ X. xor_cells n X D) (sym (cut_cells n c.deref.result.now c.in-Cut.axis c.in-Cut.at c.in-Cut.low c.in-Cut.high c.in-Cut.is) ∙ ap (node_cells n) c.deref.ensures)

@@ -1,0 +1,88 @@
+-- Rows that cancel as they come.
+use Rattle.std.proofs.Common.{◌≡◌, ℕ, zero, suc, ◌+◌, ◌-◌, ◌<◌, ◌%◌, true, ◌==◌, List, [], ◌∷◌, ◌++◌, length, take, get_or, ℤ, refl, sym, ap, ◌∙◌, subst, arith, eqb-true, eq-eqb}
+use Rattle.std.specs.List.{list_all}
+use Rattle.std.specs.List.Sorted.{IsPermutation}
+use denote.Ref.{Bor}
+use Rattle.evm_cells.specs.Places.{same}
+use Rattle.evm_cells.specs.Booleans.{xor}
+use Rattle.evm_cells.specs.Windows.{IsReduced}
+use Rattle.evm_cells.proofs.Lists.{all-append}
+use Rattle.evm_cells.proofs.Places.{strict_places}
+use Rattle.evm_cells.proofs.Sum.{xsum-append}
+use Rattle.evm_cells.proofs.Xor.{xsum, xsum-cons, xsum-nil, odd-count, xor_self, xor-false, false-xor, xor_assoc, and_first, and_second, and_both}
+use Rattle.evm_rows.specs.Rows.{rows_of, flat_of}
+use Rattle.evm_rows.specs.Groups.{targets, steady}
+use Rattle.evm_rows.proofs.Pairs.{targets_push}
+use Rattle.evm_rows.proofs.RowsOrder.{Wide}
+use Rattle.evm_shapes.specs.Order.{unpaired, AreLone}
+use Rattle.evm_shapes.proofs.Sorted.{reduced_is}
+
+-- how far the gathered rows are: with those that are left they have each place as often, by parity, as all
+pub record Gathered (n : ℕ) (W R L : List (List ℤ)) : Type 0 where
+  pub wide : list_all (λ p. length p == n) W ≡ true
+  pub odd_times : (p : List ℤ) → xor (xsum (λ q. same q p) W) (xsum (λ q. same q p) R) ≡ xsum (λ q. same q p) L
+
+pub gathered_start : (n : ℕ) (bs : List (Bor (List ℤ))) (L : List (List ℤ)) → bs ≡ [] → Gathered n (targets bs) L L
+gathered_start n bs L e = record {
+  wide = ap (λ z. list_all (λ p. length p == n) (targets z)) e;
+  odd_times = λ p. ap (λ z. xor (xsum (λ q. same q p) (targets z)) (xsum (λ q. same q p) L)) e ∙ ap (λ t. xor t (xsum (λ q. same q p) L)) (xsum-nil (λ (q : List ℤ). same q p)) ∙ false-xor (xsum (λ q. same q p) L);
+}
+
+one : (p x : List ℤ) → xsum (λ (q : List ℤ). same q p) (x ∷ []) ≡ same x p
+one p x = xsum-cons (λ (q : List ℤ). same q p) x [] ∙ ap (xor (same x p)) (xsum-nil (λ (q : List ℤ). same q p)) ∙ xor-false (same x p)
+
+pub gathered_push : (n : ℕ) (bs cs : List (Bor (List ℤ))) (b : Bor (List ℤ)) (R rest L : List (List ℤ)) → cs ≡ bs ++ b ∷ [] → R ≡ b.now ∷ rest → length b.now ≡ n → Gathered n (targets bs) R L → Gathered n (targets cs) rest L
+gathered_push n bs cs b R rest L e r w g = record {
+  wide = ap (list_all (λ p. length p == n)) (targets_push bs cs b e) ∙ all-append (λ (p : List ℤ). length p == n) (targets bs) (b.now ∷ []) ∙ and_both (list_all (λ p. length p == n) (targets bs)) (list_all (λ p. length p == n) (b.now ∷ [])) g.wide (and_both (length b.now == n) true (eq-eqb (length b.now) n w) refl);
+  odd_times = λ p.
+      ap (λ z. xor (xsum (λ q. same q p) z) (xsum (λ q. same q p) rest)) (targets_push bs cs b e)
+      ∙ ap (λ t. xor t (xsum (λ q. same q p) rest)) (xsum-append (λ (q : List ℤ). same q p) (targets bs) (b.now ∷ []) ∙ ap (xor (xsum (λ q. same q p) (targets bs))) (one p b.now))
+      ∙ xor_assoc (xsum (λ q. same q p) (targets bs)) (same b.now p) (xsum (λ q. same q p) rest)
+      ∙ ap (xor (xsum (λ q. same q p) (targets bs))) (sym (xsum-cons (λ (q : List ℤ). same q p) b.now rest) ∙ ap (xsum (λ q. same q p)) (sym r))
+      ∙ g.odd_times p;
+}
+
+-- the last gathered row, and those before it
+last_apart : (bs : List (Bor (List ℤ))) (k : ℕ) (d : Bor (List ℤ)) → k + 1 ≡ length bs → bs ≡ take k bs ++ get_or bs k d ∷ []
+last_apart [] k d e = absurd (omega arith)
+last_apart (b ∷ []) zero d e = refl
+last_apart (b ∷ c ∷ bs) zero d e = absurd (omega arith)
+last_apart (b ∷ bs) (suc k) d e = ap (λ z. b ∷ z) (last_apart bs k d (omega arith))
+
+pub gathered_pop : (n : ℕ) (bs cs : List (Bor (List ℤ))) (k : ℕ) (d : Bor (List ℤ)) (row : List ℤ) (R rest L : List (List ℤ)) → k + 1 ≡ length bs → cs ≡ take k bs → same (get_or bs k d).now row ≡ true → R ≡ row ∷ rest → Gathered n (targets bs) R L → Gathered n (targets cs) rest L
+gathered_pop n bs cs k d row R rest L e c s r g =
+    let b : Bor (List ℤ) = get_or bs k d in
+    let t : targets bs ≡ targets cs ++ b.now ∷ [] = targets_push cs bs b (last_apart bs k d e ∙ ap (λ z. z ++ b ∷ []) (sym c)) in
+    let f : b.now ≡ row = strict_places.equal b.now row s in
+    record {
+      wide = and_first (list_all (λ p. length p == n) (targets cs)) (list_all (λ p. length p == n) (b.now ∷ [])) (sym (all-append (λ (p : List ℤ). length p == n) (targets cs) (b.now ∷ [])) ∙ ap (list_all (λ p. length p == n)) (sym t) ∙ g.wide);
+      odd_times = λ p.
+          sym (ap (λ z. xor z (xsum (λ q. same q p) R)) (ap (xsum (λ q. same q p)) t ∙ xsum-append (λ (q : List ℤ). same q p) (targets cs) (b.now ∷ []) ∙ ap (xor (xsum (λ q. same q p) (targets cs))) (one p b.now ∙ ap (λ z. same z p) f))
+          ∙ ap (xor (xor (xsum (λ q. same q p) (targets cs)) (same row p))) (ap (xsum (λ q. same q p)) r ∙ xsum-cons (λ (q : List ℤ). same q p) row rest)
+          ∙ xor_assoc (xsum (λ q. same q p) (targets cs)) (same row p) (xor (same row p) (xsum (λ q. same q p) rest))
+          ∙ ap (xor (xsum (λ q. same q p) (targets cs))) (sym (xor_assoc (same row p) (same row p) (xsum (λ q. same q p) rest)) ∙ ap (λ z. xor z (xsum (λ q. same q p) rest)) (xor_self (same row p)) ∙ false-xor (xsum (λ q. same q p) rest)))
+          ∙ g.odd_times p;
+    }
+
+pub gathered_end : (n : ℕ) (W R L : List (List ℤ)) → R ≡ [] → Gathered n W R L → AreLone n L W
+gathered_end n W R L e g = record {
+  wide = g.wide;
+  odd_times = λ p.
+      odd-count (λ (q : List ℤ). same q p) W
+      ∙ sym (xor-false (xsum (λ q. same q p) W)) ∙ ap (xor (xsum (λ q. same q p) W)) (sym (ap (xsum (λ q. same q p)) e ∙ xsum-nil (λ (q : List ℤ). same q p)))
+      ∙ g.odd_times p ∙ sym (odd-count (λ (q : List ℤ). same q p) L);
+}
+
+from_wide : (n : ℕ) (S : List (List ℤ)) → list_all (λ p. length p == n) S ≡ true → Wide n S
+from_wide n [] h = tt
+from_wide n (p ∷ S) h = (eqb-true (length p) n (and_first (length p == n) (list_all (λ q. length q == n) S) h), from_wide n S (and_second (length p == n) (list_all (λ q. length q == n) S) h))
+
+-- what is left, sorted
+pub lone_is : (n : ℕ) (L : List (List ℤ)) (bs cs : List (Bor (List ℤ))) (flat : List ℤ) → 0 < n → AreLone n L (targets bs) → IsPermutation bs cs → steady (targets cs) ≡ true → flat ≡ flat_of (unpaired (targets cs))
+    → (length flat % n ≡ 0) × IsReduced n L (rows_of flat n 0)
+lone_is n L bs cs flat some a h s f =
+    let less : n ≡ n - 0 = omega arith in
+    let all = reduced_is n (targets bs) bs cs flat some (subst (λ (k : ℕ). Wide k (targets bs)) less (from_wide n (targets bs) a.wide)) refl h s f in (
+      all.0,
+      record { ascends = all.1.ascends; wide = all.1.wide; odd_times = λ p. all.1.odd_times p ∙ a.odd_times p },
+    )
