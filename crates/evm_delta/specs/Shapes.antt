@@ -76,14 +76,6 @@ unfoldable pub shape_change : Op1 → Vertices → Vertices → Vertices
 shape_change op a da =
     record { dim = op1_dim op a.dim; rows = evm (op1_dim op a.dim) (xor_cells (op1_dim op a.dim) (shape_before op a) (shape_after op a da)) }
 
--- all cells over those of a shadow, along an axis that is put in
-abbrev pub column_cells : ℕ → Vertices → List (List ℤ)
-column_cells axis a = lift (a.dim + 1) (axis - 1) (neg_ℤ (pos (limit (a.dim + 1)))) (pos (limit (a.dim + 1))) (cells_of a)
-
--- each of these places is a cell
-abbrev pub column_fits : ℕ → Vertices → Bool
-column_fits axis a = lift_fits (a.dim + 1) (axis - 1) (neg_ℤ (pos (limit (a.dim + 1)))) (pos (limit (a.dim + 1))) (cells_of a)
-
 -- where a shape gives no solid
 abbrev pub of_shape_error : ShapeError → DeltaError
 of_shape_error shapes.Range = errors.Range

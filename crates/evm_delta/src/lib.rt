@@ -9,6 +9,7 @@
 
 mod boolean_changes;
 mod flat;
+mod hulls;
 mod shape_changes;
 mod shapes;
 #[cfg(test)]

@@ -1,26 +1,37 @@
 // The change of a shape.
-ghost use Rattle.std.specs.Prelude.{◌≡◌, ◌<◌, ◌≤◌, ◌↔◌, true, false, IfOk, IsErrOf};
+ghost use Rattle.std.specs.Prelude.{◌≡◌, ◌<◌, ◌≤◌, ◌↔◌, true, false, length, IfOk, IsErrOf};
 ghost use Rattle.evm_cells.specs.Booleans.{xor_cells};
 ghost use Rattle.evm_rows.specs.Rows.{cells_of};
 ghost use Rattle.evm_rows.specs.View.{vertices_of};
 ghost use Rattle.evm_delta.specs.Shapes.{Fits, op1_dim, in_range, changed_cells, shape_before, shape_after, shape_change};
 
-use crate::flat::projection_change;
+use crate::hulls::near_columns;
 use crate::shapes::{DeltaError, Op1, shape};
-use evm_rows::{NoMemory, Rows, Solid};
+use evm_rows::{NoMemory, Rows, Solid, xor};
+use evm_shapes::project;
 use evm_tiles::Tiles;
 use std::alloc::Global;
 
-// The change of a projection.
-fn projection_near(alloc: Global, axis: usize, a: &Tiles, da: Rows<'_>) -> Result<Solid, NoMemory>
+// The change of a projection. A cell of it can change only where some cell of the change stands over it, so only what the
+// tree has in whole columns over the box of the change is looked at.
+fn projection_near(
+    alloc: Global,
+    axis: usize,
+    a: &Tiles,
+    da: Rows<'_>,
+) -> Result<Solid, NoMemory>
     requires same_dim { (vertices_of da).dim ≡ a.now.dim }
+    requires some { 0 < length (vertices_of da).rows }
     requires deep { 2 ≤ a.now.dim }
     requires low { 0 < axis }
     requires high { axis ≤ a.now.dim }
     ensures { IfOk result (λ s. s ≡ shape_change (Op1.Proj axis) a.now (vertices_of da.entry)) }
 {
-    let all = a.to_rows(alloc)?;
-    let made = projection_change(alloc, axis, all.rows(), da)?;
+    let before = near_columns(alloc, a, da, axis)?;
+    let after = xor(alloc, before.rows(), da)?;
+    let old_shadow = project(alloc, before.rows(), axis)?;
+    let new_shadow = project(alloc, after.rows(), axis)?;
+    let made = xor(alloc, old_shadow.rows(), new_shadow.rows())?;
     Ok(made)
 }
 
@@ -41,8 +52,8 @@ fn dim_of(op: &Op1, dim: usize) -> usize
 /// shape before and after.
 ///
 /// The shape before is in range. All shapes but the projection carry the change over as they do a solid; for a projection
-/// the columns that have a cell of the change are projected before and after. Where nothing changes, nothing is done.
-/// Takes the memory of the calls of that shape, for a projection three times and for its columns.
+/// the window of the tree at the least box of the change, opened along the axis, is projected before and after. Where
+/// nothing changes, nothing is done. Takes the memory of the calls of that shape, for a projection twice and for its window.
 ///
 /// # Errors
 ///
