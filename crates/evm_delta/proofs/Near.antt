@@ -15,9 +15,9 @@ use Rattle.evm_cells.proofs.Core.{cells-evm}
 use Rattle.evm_cells.proofs.Combine.{cell_set-xor}
 use Rattle.evm_rows.specs.Rows.{Vertices, cells_of, xor_rows}
 use Rattle.evm_boolean.specs.declared.boolean.Op2.{Op2}
-use Rattle.evm_delta.specs.Changes.{follows_left, follows_right, left_change, right_change, after_change}
+use Rattle.evm_delta.specs.Changes.{follows_left, follows_right, left_change, right_change, change_vertices, after_change}
 use Rattle.evm_delta.specs.Hulls.{AgreesOn}
-use Rattle.evm_delta.proofs.Deltas.{has-none, xor_rows_is}
+use Rattle.evm_delta.proofs.Deltas.{has-none, xor_rows_is, both_is}
 
 -- ---- on cells
 
@@ -114,3 +114,17 @@ part_agrees n lo hi d t s ed et e inside c m =
     ap (λ S. has S c) e ∙ has-clip_of n lo hi (cells n t.rows) c (cell_set-cells n t.rows)
     ∙ ap (λ w. has (cells n t.rows) c && w) (inside c (sym (of_dim n d c ed) ∙ m))
     ∙ and-true (has (cells n t.rows) c) ∙ sym (of_dim n t c et)
+
+-- ---- the two parts of a change, and the change
+
+-- v has what b has near the change, and x is v after it
+pub left_near_is : (op : Op2) (da b db v x part : Vertices) → b.dim ≡ da.dim → db.dim ≡ da.dim → v.dim ≡ b.dim → AgreesOn da b v → x.dim ≡ v.dim → cells_of x ≡ xor_cells v.dim (cells_of v) (cells v.dim db.rows)
+    → part ≡ left_change op da x → part ≡ left_change op da (after_change b db)
+unfolding after_change
+left_near_is op da b db v x part eb ed ev h xd xc e =
+    e ∙ left_agrees op da (after_change b db) x eb (xd ∙ ev ∙ eb) (agrees_after da b db v x ev (ed ∙ sym eb) h xd xc)
+
+pub near_is : (op : Op2) (a da b db l r s : Vertices) → da.dim ≡ a.dim → b.dim ≡ a.dim → db.dim ≡ a.dim → l ≡ left_change op da (after_change b db) → r ≡ right_change op a db
+    → s.dim ≡ l.dim → s.rows ≡ xor_rows l.dim l.rows r.rows → s ≡ change_vertices op a da b db
+unfolding after_change
+near_is op a da b db l r s p q o le re sd sr = both_is op a da b db (after_change b db) l r s p q o refl le re sd sr
