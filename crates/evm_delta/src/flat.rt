@@ -9,7 +9,12 @@ use evm_rows::{NoMemory, Rows, Solid, own};
 use std::alloc::Global;
 
 // Where a change of the left operand changes the value, with the right operand as it will be.
-pub(crate) fn left_change(alloc: Global, op: Op2, da: Rows<'_>, b: Rows<'_>) -> Result<Solid, NoMemory>
+pub(crate) fn left_change(
+    alloc: Global,
+    op: Op2,
+    da: Rows<'_>,
+    b: Rows<'_>,
+) -> Result<Solid, NoMemory>
     requires { (vertices_of b).dim ≡ (vertices_of da).dim }
     ensures { IfOk result (λ s. s ≡ left_change op (vertices_of da.entry) (vertices_of b.entry)) }
 {
@@ -22,7 +27,12 @@ pub(crate) fn left_change(alloc: Global, op: Op2, da: Rows<'_>, b: Rows<'_>) -> 
 }
 
 // Where a change of the right operand changes the value, with the left operand as it was.
-pub(crate) fn right_change(alloc: Global, op: Op2, a: Rows<'_>, db: Rows<'_>) -> Result<Solid, NoMemory>
+pub(crate) fn right_change(
+    alloc: Global,
+    op: Op2,
+    a: Rows<'_>,
+    db: Rows<'_>,
+) -> Result<Solid, NoMemory>
     requires { (vertices_of db).dim ≡ (vertices_of a).dim }
     ensures { IfOk result (λ s. s ≡ right_change op (vertices_of a.entry) (vertices_of db.entry)) }
 {

@@ -14,12 +14,7 @@ use std::alloc::Global;
 
 // The change of a projection. A cell of it can change only where some cell of the change stands over it, so only what the
 // tree has in whole columns over the box of the change is looked at.
-fn projection_near(
-    alloc: Global,
-    axis: usize,
-    a: &Tiles,
-    da: Rows<'_>,
-) -> Result<Solid, NoMemory>
+fn projection_near(alloc: Global, axis: usize, a: &Tiles, da: Rows<'_>) -> Result<Solid, NoMemory>
     requires same_dim { (vertices_of da).dim ≡ a.now.dim }
     requires some { 0 < length (vertices_of da).rows }
     requires deep { 2 ≤ a.now.dim }
