@@ -1,9 +1,9 @@
 -- A box that is opened along an axis holds whole columns.
-use Rattle.std.proofs.Common.{◌≡◌, ℕ, zero, suc, ◌-◌, ◌<◌, ◌≤◌, ◌≤ℤ◌, Bool, true, false, ◌&&◌, ◌==◌, List, [], ◌∷◌, length, take, slice_set, ℤ, pos, neg_ℤ, int_le, int_lt, refl, sym, ap, ap₂, ◌∙◌, arith, subst, eqb-true}
-use Rattle.std.specs.List.{list_any, list_all}
+use Rattle.std.proofs.Common.{◌≡◌, ℕ, zero, suc, ◌-◌, ◌<◌, ◌≤◌, Bool, true, false, ◌&&◌, ◌==◌, List, length, take, slice_set, ℤ, pos, neg_ℤ, int_le, int_lt, refl, sym, ap, ◌∙◌, arith, subst, eqb-true}
+use Rattle.std.specs.List.{list_any}
 use Rattle.std.proofs.lemmas.Bool.{eqb-false}
 use Rattle.std.proofs.lemmas.Grind.{get_or-set_at}
-use Rattle.std.proofs.lemmas.List.{get_or-set_other, length-set}
+use Rattle.std.proofs.lemmas.List.{get_or-set_other}
 use Rattle.std.proofs.lemmas.Int.{ints as int_facts}
 use Rattle.evm_cells.specs.Places.{each, has, with_at, without}
 use Rattle.evm_cells.specs.Limits.{limit, is_point, is_point_coord, is_cell, cell_coords, IsCellSet}

@@ -17,7 +17,7 @@ use Rattle.evm_cells.proofs.Core.{evm-cells}
 use Rattle.evm_cells.proofs.Layers.{evm-empty}
 use Rattle.evm_cells.proofs.Slices.{coord, all-coord}
 use Rattle.evm_cells.proofs.Sides.{rows_under, rows_over}
-use Rattle.evm_rows.specs.Rows.{Vertices, cells_of}
+use Rattle.evm_rows.specs.Rows.{Vertices}
 use Rattle.evm_tiles.proofs.Planes.{long}
 use Rattle.evm_delta.specs.Hulls.{IsLow, IsHigh, IsAround}
 

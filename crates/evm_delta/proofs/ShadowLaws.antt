@@ -1,24 +1,19 @@
 -- A projection changes only where some cell of the change stands over it.
-use Rattle.std.proofs.Common.{◌≡◌, ℕ, suc, ◌<◌, Bool, true, false, ◌&&◌, List, [], ◌∷◌, get_or, ℤ, pos, neg_ℤ, int_le, int_lt, int_eq, refl, sym, ap, ap₂, ◌∙◌, arith, ⊎_elim}
-use Rattle.std.specs.List.{list_any, list_all}
+use Rattle.std.proofs.Common.{◌≡◌, ℕ, suc, ◌<◌, Bool, true, false, ◌&&◌, List, [], ◌∷◌, ℤ, int_eq, refl, sym, ap, ap₂, ◌∙◌, ⊎_elim}
+use Rattle.std.specs.List.{list_any}
 use Rattle.std.proofs.lemmas.Bool.{true≢false, false≢true, or_cases, or_left, or_right}
-use Rattle.evm_cells.specs.Places.{has, same, before, without, with_at}
-use Rattle.evm_cells.specs.Limits.{cell_coords, is_cell, is_cell_coord, limit, IsCellSet}
-use Rattle.evm_cells.specs.Booleans.{xor, xor_cells, and_cells}
+use Rattle.evm_cells.specs.Places.{has, with_at}
+use Rattle.evm_cells.specs.Limits.{cell_coords, is_cell, IsCellSet}
+use Rattle.evm_cells.specs.Booleans.{xor, xor_cells}
 use Rattle.evm_cells.specs.Sections.{slice}
-use Rattle.evm_cells.specs.Shapes.{proj, lift, lift_fits}
-use Rattle.evm_cells.proofs.Xor.{and_both, and_second, xor-false, xor_self}
+use Rattle.evm_cells.specs.Shapes.{proj}
+use Rattle.evm_cells.proofs.Xor.{and_both, xor-false, xor_self}
 use Rattle.evm_cells.proofs.Order.{refuted}
-use Rattle.std.proofs.lemmas.Int.{ints as int_facts}
-use Rattle.evm_cells.proofs.Lists.{all_members}
-use Rattle.evm_cells.proofs.Places.{strict_places, has-any}
-use Rattle.evm_cells.proofs.LiftRanges.{fits_within}
-use Rattle.evm_cells.proofs.Coords.{eq_is, any-cell_coords, point_yes, lt_yes, limit-some}
-use Rattle.evm_cells.proofs.Universe.{same_sets, cell_parts, has-cells, member_passes}
+use Rattle.evm_cells.proofs.Coords.{eq_is, any-cell_coords}
+use Rattle.evm_cells.proofs.Universe.{same_sets, has-cells, member_passes}
 use Rattle.evm_cells.proofs.Combine.{cell_set-xor, has-xor_cells}
-use Rattle.evm_cells.proofs.Booleans.{by_cells, cell_sets}
-use Rattle.evm_cells.proofs.Slices.{has-slice_of, cell_of_with_at, all-with_at}
-use Rattle.evm_cells.proofs.Lifts.{some_passing, proj_of_sections, cell_set-proj, cell_set-lift, without-with_at, coord-with_at}
+use Rattle.evm_cells.proofs.Slices.{has-slice_of, cell_of_with_at}
+use Rattle.evm_cells.proofs.Lifts.{proj_of_sections, cell_set-proj}
 
 -- a number of a list that passes
 any_found : (f : ℤ → Bool) (xs : List ℤ) (k : ℤ) → f k ≡ true → list_any (int_eq k) xs ≡ true → list_any f xs ≡ true

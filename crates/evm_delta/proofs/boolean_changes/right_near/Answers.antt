@@ -1,4 +1,4 @@
-use Rattle.std.proofs.Common.{◌≡◌, [], sym, ap, ◌∙◌}
+use Rattle.std.proofs.Common.{sym, ap, ◌∙◌}
 use Rattle.evm_rows.specs.Rows.{Vertices}
 use Rattle.evm_rows.specs.View.{vertices_of}
 use Rattle.evm_delta.specs.Changes.{right_change}

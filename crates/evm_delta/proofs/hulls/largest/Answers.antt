@@ -1,4 +1,4 @@
-use Rattle.std.proofs.Common.{◌≡◌, ◌-◌, ℕ, ℤ, List, pos, neg_ℤ, get_or, int_lt, refl, sym, ap, ◌∙◌, arith, true, w32, to_z, of_z}
+use Rattle.std.proofs.Common.{◌≡◌, ◌-◌, ℕ, ℤ, List, pos, neg_ℤ, get_or, ap, ◌∙◌, arith, true, w32, to_z, of_z}
 use Rattle.std.proofs.lemmas.Int.{ints}
 use Rattle.evm_cells.specs.Limits.{limit, is_point_coord}
 use Rattle.evm_cells.proofs.Coords.{point_yes}

@@ -1,4 +1,4 @@
-use Rattle.std.proofs.Common.{◌≡◌, ◌-◌, ◌≤◌, ◌<◌, ◌-ℤ◌, ℕ, ℤ, List, [], length, take, slice_set, pos, neg_ℤ, refl, sym, ap, ◌∙◌, arith, w32, to_z, of_z}
+use Rattle.std.proofs.Common.{◌-◌, ◌≤◌, ◌<◌, ◌-ℤ◌, ℕ, ℤ, List, length, take, slice_set, pos, refl, sym, ap, ◌∙◌, arith, w32, to_z, of_z}
 use Rattle.std.proofs.lemmas.List.{get_or-set_same, length-set}
 use Rattle.evm_cells.specs.Boxes.{is_box}
 use Rattle.evm_cells.specs.Limits.{limit}

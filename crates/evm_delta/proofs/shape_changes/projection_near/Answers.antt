@@ -1,4 +1,4 @@
-use Rattle.std.proofs.Common.{◌≡◌, ◌-◌, ℕ, ℤ, List, sym, ap, ◌∙◌, subst}
+use Rattle.std.proofs.Common.{◌-◌, ℕ, ℤ, List, sym, subst}
 use Rattle.evm_cells.specs.Booleans.{xor_cells}
 use Rattle.evm_cells.specs.Shapes.{proj}
 use Rattle.evm_cells.specs.Vertices.{cells}
