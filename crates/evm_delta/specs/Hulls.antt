@@ -25,6 +25,10 @@ pub record IsAround (k : ℕ) (lo hi : List ℤ) (v : Vertices) : Type 0 where
 abbrev pub AgreesOn : Vertices → Vertices → Vertices → Type 0
 AgreesOn d t s = (c : List ℤ) → has (cells_of d) c ≡ true → has (cells_of s) c ≡ has (cells_of t) c
 
+-- the projection of a solid along axis i
+abbrev pub shadow : ℕ → Vertices → List (List ℤ)
+shadow i d = proj (d.dim - 1) i (cells_of d)
+
 -- the solid s has what t has at each place over a cell of the projection of d along axis i
 abbrev pub AgreesOver : ℕ → Vertices → Vertices → Vertices → Type 0
-AgreesOver i d t s = (c : List ℤ) (k : ℤ) → has (proj (d.dim - 1) i (cells_of d)) c ≡ true → has (cells_of s) (with_at i k c) ≡ has (cells_of t) (with_at i k c)
+AgreesOver i d t s = (c : List ℤ) (k : ℤ) → has (shadow i d) c ≡ true → has (cells_of s) (with_at i k c) ≡ has (cells_of t) (with_at i k c)

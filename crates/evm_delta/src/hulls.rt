@@ -8,34 +8,22 @@ use evm_rows::{DIM_MAX, NoMemory, Rows, Solid, limit, split_row};
 use evm_tiles::Tiles;
 use std::alloc::Global;
 
-// The least coordinate of the rows on an axis, counted from 0.
-fn least(d: Rows<'_>, axis: usize) -> i32
+// The least and the largest coordinate of the rows on an axis, counted from 0.
+fn span(d: Rows<'_>, axis: usize) -> (i32, i32)
     requires { axis < (vertices_of d).dim }
-    ensures { IsLow axis result (vertices_of d.entry) }
+    ensures low { IsLow axis result.0 (vertices_of d.entry) }
+    ensures high { IsHigh axis result.1 (vertices_of d.entry) }
 {
-    let mut least = limit(d.dim());
+    let limit = limit(d.dim());
+    let (mut least, mut largest) = (limit, -limit);
     let mut left = d.flat;
     while left.len() != 0 {
         let (row, rest) = split_row(left, d.width, d.skip);
         least = least.min(row[axis]);
-        left = rest;
-    }
-    least
-}
-
-// The largest one.
-fn largest(d: Rows<'_>, axis: usize) -> i32
-    requires { axis < (vertices_of d).dim }
-    ensures { IsHigh axis result (vertices_of d.entry) }
-{
-    let mut largest = -limit(d.dim());
-    let mut left = d.flat;
-    while left.len() != 0 {
-        let (row, rest) = split_row(left, d.width, d.skip);
         largest = largest.max(row[axis]);
         left = rest;
     }
-    largest
+    (least, largest)
 }
 
 // The ends of a box on each axis, with numbers behind them that say nothing.
@@ -56,8 +44,9 @@ pub(crate) fn hull(d: Rows<'_>) -> Ends
         hi: [0; DIM_MAX],
     };
     for axis in 0..d.dim() {
-        ends.lo[axis] = least(d, axis);
-        ends.hi[axis] = largest(d, axis);
+        let (least, largest) = span(d, axis);
+        ends.lo[axis] = least;
+        ends.hi[axis] = largest;
     }
     ends
 }

@@ -1,9 +1,8 @@
 // The change of a shape.
 ghost use Rattle.std.specs.Prelude.{◌≡◌, ◌<◌, ◌≤◌, ◌↔◌, true, false, length, IfOk, IsErrOf};
-ghost use Rattle.evm_cells.specs.Booleans.{xor_cells};
 ghost use Rattle.evm_rows.specs.Rows.{cells_of};
 ghost use Rattle.evm_rows.specs.View.{vertices_of};
-ghost use Rattle.evm_delta.specs.Shapes.{Fits, op1_dim, in_range, changed_cells, shape_before, shape_after, shape_change};
+ghost use Rattle.evm_delta.specs.Shapes.{Fits, op1_dim, in_range, changed_cells, shape_change, IsShapeChange, CarriesShape};
 
 use crate::hulls::near_columns;
 use crate::shapes::{DeltaError, Op1, shape};
@@ -59,10 +58,10 @@ pub fn delta1(alloc: Global, op: &Op1, a: &Tiles, da: Rows<'_>) -> Result<Solid,
     requires stands { in_range op.now a.now.dim (cells_of a.now) ≡ true }
     ensures vertices { IfOk result (λ s. s ≡ shape_change op.now a.now (vertices_of da.entry)) }
     ensures dim { IfOk result (λ s. s.dim ≡ op1_dim op.now a.now.dim) }
-    ensures cells { IfOk result (λ s. cells_of s ≡ xor_cells s.dim (shape_before op.now a.now) (shape_after op.now a.now (vertices_of da.entry))) }
+    ensures cells { IfOk result (λ s. IsShapeChange op.now a.now (vertices_of da.entry) s) }
 
     // The shape before becomes the shape after.
-    ensures carries { IfOk result (λ s. xor_cells s.dim (shape_before op.now a.now) (cells_of s) ≡ shape_after op.now a.now (vertices_of da.entry)) }
+    ensures carries { IfOk result (λ s. CarriesShape op.now a.now (vertices_of da.entry) s) }
     ensures range { IsErrOf result DeltaError.Range ↔ (in_range op.now a.now.dim (changed_cells a.now (vertices_of da.entry)) ≡ false) }
 {
     if da.len() == 0 {
