@@ -14,7 +14,7 @@ use Rattle.evm_boolean.specs.declared.boolean.Op2.{Op2}
 use Rattle.evm_boolean.specs.declared.boolean.Op2.TheVariants.{Or, And, Sub, Xor}
 use Rattle.evm_boolean.specs.Tower.{fills, and_vertices, sub_vertices}
 use Rattle.evm_delta.specs.Changes.{op_cells, value_before, value_after, change_vertices, follows_left, follows_right, left_change, right_change}
-use Rattle.evm_delta.proofs.Tables.{change_at, fills-nothing, xor_twice, xor_none}
+use Rattle.evm_delta.proofs.Tables.{change_at, fills-nothing, xor_twice}
 
 -- the parts of a change, on cells
 abbrev pub left_cells : Op2 → ℕ → List (List ℤ) → List (List ℤ) → List (List ℤ)
@@ -70,20 +70,6 @@ both_parts op n A DA B DB a da b db =
     is_change op n A DA B DB (xor_cells n (left_cells op n DA (xor_cells n B DB)) (right_cells op n A DB)) a da b db (cell_set-xor n (left_cells op n DA (xor_cells n B DB)) (right_cells op n A DB))
     (λ c. has-xor_cells n (left_cells op n DA (xor_cells n B DB)) (right_cells op n A DB) c l r
     ∙ ap₂ xor (has-left op n DA (xor_cells n B DB) c da (cell_set-xor n B DB) ∙ ap (λ t. has DA c && follows_left op t) (has-xor_cells n B DB c b db)) (has-right op n A DB c a db))
-
--- the left operand alone changes
-pub left_part : (op : Op2) (n : ℕ) (A DA B : List (List ℤ)) → IsCellSet n A → IsCellSet n DA → IsCellSet n B → left_cells op n DA B ≡ change_cells op n A DA B (cells n [])
-left_part op n A DA B a da b =
-    is_change op n A DA B (cells n []) (left_cells op n DA B) a da b (cell_set-cells n []) (cell_set-combine (λ d r. d && follows_left op r) n DA B)
-    (λ c. has-left op n DA B c da b ∙ sym (ap (λ t. xor (has DA c && follows_left op (xor (has B c) t)) (t && follows_right op (has A c))) (has-none n c)
-    ∙ xor_none (has DA c && follows_left op (xor (has B c) false)) ∙ ap (λ t. has DA c && follows_left op t) (xor_none (has B c))))
-
--- the right operand alone changes
-pub right_part : (op : Op2) (n : ℕ) (A B DB : List (List ℤ)) → IsCellSet n A → IsCellSet n B → IsCellSet n DB → right_cells op n A DB ≡ change_cells op n A (cells n []) B DB
-unfolding xor
-right_part op n A B DB a b db =
-    is_change op n A (cells n []) B DB (right_cells op n A DB) a (cell_set-cells n []) b db (cell_set-combine (λ d l. d && follows_right op l) n DB A)
-    (λ c. has-right op n A DB c a db ∙ sym (ap (λ t. xor (t && follows_left op (xor (has B c) (has DB c))) (has DB c && follows_right op (has A c))) (has-none n c)))
 
 -- an exclusive or changes by the exclusive or of the changes
 pub xor_parts : (n : ℕ) (A DA B DB : List (List ℤ)) → IsCellSet n A → IsCellSet n DA → IsCellSet n B → IsCellSet n DB → xor_cells n DA DB ≡ change_cells Xor n A DA B DB
@@ -143,22 +129,6 @@ both_is op a da b db f l r s p q o fr le re sd sr =
     ap (λ (v : Vertices). v.rows) re ∙ ap (λ m. evm m (right_cells op m (cells m a.rows) (cells m db.rows))) o in
     let after : f.rows ≡ xor_rows a.dim b.rows db.rows = fr ∙ ap (λ m. xor_rows m b.rows db.rows) q in
     change_in op a da b db s p q o (sd ∙ ld) (sr ∙ (λ i. xor_rows (ld i) (lr i) (rr i)) ∙ both_rows op a.dim a.rows da.rows b.rows db.rows f.rows after)
-
-pub left_is : (op : Op2) (a da b db s : Vertices) → da.dim ≡ a.dim → b.dim ≡ a.dim → db.dim ≡ a.dim → db.rows ≡ [] → s ≡ left_change op da b → s ≡ change_vertices op a da b db
-unfolding left_change
-left_is op a da b db s p q o none e =
-    change_in op a da b db s p q o (ap (λ (v : Vertices). v.dim) e ∙ p)
-    (ap (λ (v : Vertices). v.rows) e ∙ ap (λ m. evm m (left_cells op m (cells m da.rows) (cells m b.rows))) p
-    ∙ ap (evm a.dim) (left_part op a.dim (cells a.dim a.rows) (cells a.dim da.rows) (cells a.dim b.rows) (cell_set-cells a.dim a.rows) (cell_set-cells a.dim da.rows) (cell_set-cells a.dim b.rows))
-    ∙ ap (λ X. evm a.dim (change_cells op a.dim (cells a.dim a.rows) (cells a.dim da.rows) (cells a.dim b.rows) (cells a.dim X))) (sym none))
-
-pub right_is : (op : Op2) (a da b db s : Vertices) → da.dim ≡ a.dim → b.dim ≡ a.dim → db.dim ≡ a.dim → da.rows ≡ [] → s ≡ right_change op a db → s ≡ change_vertices op a da b db
-unfolding right_change
-right_is op a da b db s p q o none e =
-    change_in op a da b db s p q o (ap (λ (v : Vertices). v.dim) e ∙ o)
-    (ap (λ (v : Vertices). v.rows) e ∙ ap (λ m. evm m (right_cells op m (cells m a.rows) (cells m db.rows))) o
-    ∙ ap (evm a.dim) (right_part op a.dim (cells a.dim a.rows) (cells a.dim b.rows) (cells a.dim db.rows) (cell_set-cells a.dim a.rows) (cell_set-cells a.dim b.rows) (cell_set-cells a.dim db.rows))
-    ∙ ap (λ X. evm a.dim (change_cells op a.dim (cells a.dim a.rows) (cells a.dim X) (cells a.dim b.rows) (cells a.dim db.rows))) (sym none))
 
 pub xor_is : (op : Op2) (a da b db s : Vertices) → op ≡ Xor → da.dim ≡ a.dim → b.dim ≡ a.dim → db.dim ≡ a.dim → s.dim ≡ da.dim → s.rows ≡ xor_rows da.dim da.rows db.rows → s ≡ change_vertices op a da b db
 xor_is op a da b db s x p q o sd sr =

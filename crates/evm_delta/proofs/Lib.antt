@@ -6,3 +6,6 @@ pub mod Shaped
 pub mod ShadowLaws
 pub mod Shadows
 pub mod Carried
+pub mod HullLaws
+pub mod Near
+pub mod Columns

@@ -1,24 +1,19 @@
 -- A projection changes only where some cell of the change stands over it.
-use Rattle.std.proofs.Common.{◌≡◌, ℕ, suc, ◌<◌, Bool, true, false, ◌&&◌, List, [], ◌∷◌, get_or, ℤ, pos, neg_ℤ, int_le, int_lt, int_eq, refl, sym, ap, ap₂, ◌∙◌, arith, ⊎_elim}
-use Rattle.std.specs.List.{list_any, list_all}
+use Rattle.std.proofs.Common.{◌≡◌, ℕ, suc, ◌<◌, Bool, true, false, ◌&&◌, List, [], ◌∷◌, ℤ, int_eq, refl, sym, ap, ap₂, ◌∙◌, ⊎_elim}
+use Rattle.std.specs.List.{list_any}
 use Rattle.std.proofs.lemmas.Bool.{true≢false, false≢true, or_cases, or_left, or_right}
-use Rattle.evm_cells.specs.Places.{has, same, before, without, with_at}
-use Rattle.evm_cells.specs.Limits.{cell_coords, is_cell, is_cell_coord, limit, IsCellSet}
-use Rattle.evm_cells.specs.Booleans.{xor, xor_cells, and_cells}
+use Rattle.evm_cells.specs.Places.{has, with_at}
+use Rattle.evm_cells.specs.Limits.{cell_coords, is_cell, IsCellSet}
+use Rattle.evm_cells.specs.Booleans.{xor, xor_cells}
 use Rattle.evm_cells.specs.Sections.{slice}
-use Rattle.evm_cells.specs.Shapes.{proj, lift, lift_fits}
-use Rattle.evm_cells.proofs.Xor.{and_both, and_second, xor-false, xor_self}
+use Rattle.evm_cells.specs.Shapes.{proj}
+use Rattle.evm_cells.proofs.Xor.{and_both, xor-false, xor_self}
 use Rattle.evm_cells.proofs.Order.{refuted}
-use Rattle.std.proofs.lemmas.Int.{ints as int_facts}
-use Rattle.evm_cells.proofs.Lists.{all_members}
-use Rattle.evm_cells.proofs.Places.{strict_places, has-any}
-use Rattle.evm_cells.proofs.LiftRanges.{fits_within}
-use Rattle.evm_cells.proofs.Coords.{eq_is, any-cell_coords, point_yes, lt_yes, limit-some}
-use Rattle.evm_cells.proofs.Universe.{same_sets, cell_parts, has-cells, member_passes}
+use Rattle.evm_cells.proofs.Coords.{eq_is, any-cell_coords}
+use Rattle.evm_cells.proofs.Universe.{same_sets, has-cells, member_passes}
 use Rattle.evm_cells.proofs.Combine.{cell_set-xor, has-xor_cells}
-use Rattle.evm_cells.proofs.Booleans.{by_cells, cell_sets}
-use Rattle.evm_cells.proofs.Slices.{has-slice_of, cell_of_with_at, all-with_at}
-use Rattle.evm_cells.proofs.Lifts.{some_passing, proj_of_sections, cell_set-proj, cell_set-lift, without-with_at, coord-with_at}
+use Rattle.evm_cells.proofs.Slices.{has-slice_of, cell_of_with_at}
+use Rattle.evm_cells.proofs.Lifts.{proj_of_sections, cell_set-proj}
 
 -- a number of a list that passes
 any_found : (f : ℤ → Bool) (xs : List ℤ) (k : ℤ) → f k ≡ true → list_any (int_eq k) xs ≡ true → list_any f xs ≡ true
@@ -29,7 +24,7 @@ any_found f (x ∷ xs) k h m = ⊎_elim
     (or_cases (int_eq k x) (list_any (int_eq k) xs) m)
 
 -- a cell of a projection has a height at which a cell stands over it
-has-proj : (n i : ℕ) (S : List (List ℤ)) (c : List ℤ) → i < suc n → IsCellSet (suc n) S → has (proj n i S) c ≡ (is_cell n c && list_any (λ k. has S (with_at i k c)) (cell_coords (suc n)))
+pub has-proj : (n i : ℕ) (S : List (List ℤ)) (c : List ℤ) → i < suc n → IsCellSet (suc n) S → has (proj n i S) c ≡ (is_cell n c && list_any (λ k. has S (with_at i k c)) (cell_coords (suc n)))
 has-proj n i S c l s =
     ap (λ X. has X c) (proj_of_sections n i S l s)
     ∙ has-cells n (λ d. list_any (λ k. has (slice n i k S) d) (cell_coords (suc n))) c
@@ -56,45 +51,11 @@ over n i S c k l s h m =
     ∙ and_both (is_cell n c) (list_any (λ z. has S (with_at i z c)) (cell_coords (suc n))) h
     (any_found (λ z. has S (with_at i z c)) (cell_coords (suc n)) k m (any-cell_coords (suc n) k ∙ a))
 
--- the column over a place has every cell over it
-in_column : (n i : ℕ) (lo hi : ℤ) (P : List (List ℤ)) (c : List ℤ) (k : ℤ) → i < suc n → lo ≡ neg_ℤ (pos (limit (suc n))) → hi ≡ pos (limit (suc n)) → is_cell n c ≡ true → has P c ≡ true → is_cell (suc n) (with_at i k c) ≡ true
-    → has (lift (suc n) i lo hi P) (with_at i k c) ≡ true
-unfolding lift is_cell_coord
-in_column n i lo hi P c k l a b h p m =
-    let (e, w) = cell_parts n c h in
-    let (y, z) = cell_of_with_at n i k c m in
-    let x : List ℤ = with_at i k c in
-    let here : ℤ → Bool = λ z. int_le lo z && int_lt z hi in
-    has-cells (suc n) (λ d. has P (without i d) && here (get_or d i (pos 0))) x
-    ∙ and_both (is_cell (suc n) x) (has P (without i x) && here (get_or x i (pos 0))) m
-    (and_both (has P (without i x)) (here (get_or x i (pos 0)))
-    (ap (has P) (without-with_at i k c (omega arith)) ∙ p)
-    (ap here (coord-with_at i k c (omega arith)) ∙ ap₂ (λ u v. int_le u k && int_lt k v) a b ∙ y))
-
--- the cells of A in the columns over the projection of D
-abbrev pub columns : ℕ → ℕ → ℤ → ℤ → List (List ℤ) → List (List ℤ) → List (List ℤ)
-columns n i lo hi A D = and_cells (suc n) A (lift (suc n) i lo hi (proj n i D))
-
-cell_set-columns : (n i : ℕ) (lo hi : ℤ) (A D : List (List ℤ)) → IsCellSet (suc n) (columns n i lo hi A D)
-cell_set-columns n i lo hi A D = let (o, a, s, x) = cell_sets (suc n) A (lift (suc n) i lo hi (proj n i D)) in a
-
--- over the projection of the change, the columns have what the whole has
-kept : (n i : ℕ) (lo hi : ℤ) (A D : List (List ℤ)) (c : List ℤ) (k : ℤ) → i < suc n → lo ≡ neg_ℤ (pos (limit (suc n))) → hi ≡ pos (limit (suc n)) → IsCellSet (suc n) A → has (proj n i D) c ≡ true → is_cell n c ≡ true
-    → has (columns n i lo hi A D) (with_at i k c) ≡ has A (with_at i k c)
-kept n i lo hi A D c k l a b s p h =
-    let L : List (List ℤ) = lift (suc n) i lo hi (proj n i D) in
-    let x : List ℤ = with_at i k c in
-    let (o, w, u, v) = by_cells (suc n) A L x s (cell_set-lift (suc n) i lo hi (proj n i D)) in
-    w ∙ step (has A x) (has L x) (λ m. in_column n i lo hi (proj n i D) c k l a b h p (member_passes (is_cell (suc n)) A x s.cells m))
-  where
-    step : (x y : Bool) → (x ≡ true → y ≡ true) → (x && y) ≡ x
-    step true y f = f refl
-    step false y f = refl
-
--- the change of the projection is that of the projection of the columns
-pub shadow_change : (n i : ℕ) (lo hi : ℤ) (A D : List (List ℤ)) → i < suc n → lo ≡ neg_ℤ (pos (limit (suc n))) → hi ≡ pos (limit (suc n)) → IsCellSet (suc n) A → IsCellSet (suc n) D
-    → xor_cells n (proj n i (columns n i lo hi A D)) (proj n i (xor_cells (suc n) (columns n i lo hi A D) D)) ≡ xor_cells n (proj n i A) (proj n i (xor_cells (suc n) A D))
-shadow_change n i lo hi A D l a b s d =
+-- a solid R that has what A has over the projection of the change: the projection of A changes as that of R does
+pub shadow_change : (n i : ℕ) (A R D : List (List ℤ)) → i < suc n → IsCellSet (suc n) A → IsCellSet (suc n) R → IsCellSet (suc n) D
+    → ((c : List ℤ) (k : ℤ) → has (proj n i D) c ≡ true → has R (with_at i k c) ≡ has A (with_at i k c))
+    → xor_cells n (proj n i R) (proj n i (xor_cells (suc n) R D)) ≡ xor_cells n (proj n i A) (proj n i (xor_cells (suc n) A D))
+shadow_change n i A R D l s r d kept =
     let x : IsCellSet n (xor_cells n (proj n i R) (proj n i RD)) = cell_set-xor n (proj n i R) (proj n i RD) in
     let y : IsCellSet n (xor_cells n (proj n i A) (proj n i AD)) = cell_set-xor n (proj n i A) (proj n i AD) in
     same_sets (xor_cells n (proj n i R) (proj n i RD)) (xor_cells n (proj n i A) (proj n i AD)) x.ascends y.ascends
@@ -102,17 +63,11 @@ shadow_change n i lo hi A D l a b s d =
     ∙ at c (has (proj n i D) c) refl
     ∙ sym (has-xor_cells n (proj n i A) (proj n i AD) c (cell_set-proj n i A) (cell_set-proj n i AD)))
   where
-    R : List (List ℤ)
-    R = columns n i lo hi A D
-
     RD : List (List ℤ)
-    RD = xor_cells (suc n) (columns n i lo hi A D) D
+    RD = xor_cells (suc n) R D
 
     AD : List (List ℤ)
     AD = xor_cells (suc n) A D
-
-    r : IsCellSet (suc n) (columns n i lo hi A D)
-    r = cell_set-columns n i lo hi A D
 
     -- nothing of the change stands over the place
     untouched : (X : List (List ℤ)) (c : List ℤ) → IsCellSet (suc n) X → has (proj n i D) c ≡ false → has (proj n i (xor_cells (suc n) X D)) c ≡ has (proj n i X) c
@@ -125,24 +80,11 @@ shadow_change n i lo hi A D l a b s d =
     at : (c : List ℤ) (t : Bool) → has (proj n i D) c ≡ t → xor (has (proj n i R) c) (has (proj n i RD) c) ≡ xor (has (proj n i A) c) (has (proj n i AD) c)
     at c true e =
         ap₂ xor
-        (same_over n i R A c l r s (λ h k. kept n i lo hi A D c k l a b s e h))
+        (same_over n i R A c l r s (λ h k. kept c k e))
         (same_over n i RD AD c l (cell_set-xor (suc n) R D) (cell_set-xor (suc n) A D)
         (λ h k. has-xor_cells (suc n) R D (with_at i k c) r d
-        ∙ ap (λ z. xor z (has D (with_at i k c))) (kept n i lo hi A D c k l a b s e h)
+        ∙ ap (λ z. xor z (has D (with_at i k c))) (kept c k e)
         ∙ sym (has-xor_cells (suc n) A D (with_at i k c) s d)))
     at c false e =
         ap (xor (has (proj n i R) c)) (untouched R c r e) ∙ xor_self (has (proj n i R) c)
         ∙ sym (ap (xor (has (proj n i A) c)) (untouched A c s e) ∙ xor_self (has (proj n i A) c))
-
--- the columns over a projection are cells: each has the coordinates of a cell that stands over it
-pub columns_fit : (n i : ℕ) (D : List (List ℤ)) → i < suc n → IsCellSet (suc n) D → lift_fits (suc n) i (neg_ℤ (pos (limit (suc n)))) (pos (limit (suc n))) (proj n i D) ≡ true
-columns_fit n i D l d =
-    let s = limit-some (suc n) in
-    fits_within n i (neg_ℤ (pos (limit (suc n)))) (pos (limit (suc n))) (proj n i D) (cell_set-proj n i D)
-    (point_yes (suc n) (neg_ℤ (pos (limit (suc n)))) (omega (arith, int_facts)) (omega (arith, int_facts))) (point_yes (suc n) (pos (limit (suc n))) (omega (arith, int_facts)) (omega (arith, int_facts)))
-    (lt_yes (neg_ℤ (pos (limit (suc n)))) (pos (limit (suc n))) (omega (arith, int_facts)))
-    ∙ all_members same before strict_places (list_all (is_cell_coord (suc n))) (proj n i D)
-    (λ c m. let over = and_second (is_cell n c) (list_any (λ k. has D (with_at i k c)) (cell_coords (suc n))) (sym (has-proj n i D c l d) ∙ has-any (proj n i D) c ∙ m) in
-    let (k, h, q) = some_passing (λ k. has D (with_at i k c)) (cell_coords (suc n)) over in
-    let (e, a) = cell_parts (suc n) (with_at i k c) (member_passes (is_cell (suc n)) D (with_at i k c) d.cells h) in
-    and_second (is_cell_coord (suc n) k) (list_all (is_cell_coord (suc n)) c) (sym (all-with_at (is_cell_coord (suc n)) i k c) ∙ a))

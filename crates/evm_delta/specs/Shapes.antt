@@ -76,13 +76,13 @@ unfoldable pub shape_change : Op1 → Vertices → Vertices → Vertices
 shape_change op a da =
     record { dim = op1_dim op a.dim; rows = evm (op1_dim op a.dim) (xor_cells (op1_dim op a.dim) (shape_before op a) (shape_after op a da)) }
 
--- all cells over those of a shadow, along an axis that is put in
-abbrev pub column_cells : ℕ → Vertices → List (List ℤ)
-column_cells axis a = lift (a.dim + 1) (axis - 1) (neg_ℤ (pos (limit (a.dim + 1)))) (pos (limit (a.dim + 1))) (cells_of a)
+-- the solid s is the exclusive or of the shape before and after
+abbrev pub IsShapeChange : Op1 → Vertices → Vertices → Vertices → Type 0
+IsShapeChange op a da s = cells_of s ≡ xor_cells s.dim (shape_before op a) (shape_after op a da)
 
--- each of these places is a cell
-abbrev pub column_fits : ℕ → Vertices → Bool
-column_fits axis a = lift_fits (a.dim + 1) (axis - 1) (neg_ℤ (pos (limit (a.dim + 1)))) (pos (limit (a.dim + 1))) (cells_of a)
+-- the shape before, changed by s, is the shape after
+abbrev pub CarriesShape : Op1 → Vertices → Vertices → Vertices → Type 0
+CarriesShape op a da s = xor_cells s.dim (shape_before op a) (cells_of s) ≡ shape_after op a da
 
 -- where a shape gives no solid
 abbrev pub of_shape_error : ShapeError → DeltaError

@@ -1,4 +1,4 @@
-use Rattle.std.proofs.Common.{◌≡◌, ◌-◌, ◌-ℤ◌, ◌∙◌, ℕ, ℤ, pos, neg_ℤ, SFits, w32, to_z, of_z, ap, arith, rules}
+use Rattle.std.proofs.Common.{◌≡◌, ◌-◌, ◌-ℤ◌, ◌∙◌, ℕ, ℤ, pos, neg_ℤ, SFits, w32, to_z, of_z, ap, arith}
 use Rattle.std.proofs.lemmas.Int.{ints, to_z-of_z}
 use Rattle.evm_cells.specs.Limits.{limit}
 use Rattle.evm_cells.proofs.Coords.{limit-small}

@@ -1,0 +1,85 @@
+// The change of a Boolean of trees of tiles.
+ghost use Rattle.std.specs.Prelude.{◌≡◌, IfOk};
+ghost use Rattle.evm_rows.specs.View.{vertices_of};
+ghost use Rattle.evm_delta.specs.Changes.{after_change, change_vertices, left_change, right_change, IsChange, Carries};
+
+use crate::flat::{left_change, right_change};
+use crate::hulls::near;
+use evm_boolean::Op2;
+use evm_rows::{NoMemory, Rows, Solid, xor};
+use evm_tiles::Tiles;
+use std::alloc::Global;
+
+// Where a change of the left operand changes the value, with the right operand as it will be. Only what that operand has
+// near the change is looked at.
+fn left_near(
+    alloc: Global,
+    op: Op2,
+    da: Rows<'_>,
+    b: &Tiles,
+    db: Rows<'_>,
+) -> Result<Solid, NoMemory>
+    requires other { b.now.dim ≡ (vertices_of da).dim }
+    requires right { (vertices_of db).dim ≡ (vertices_of da).dim }
+    ensures { IfOk result (λ s. s ≡ left_change op (vertices_of da.entry) (after_change b.now (vertices_of db.entry))) }
+{
+    if da.len() == 0 {
+        let none = Solid::empty(alloc, da.dim());
+        return Ok(none);
+    }
+    let before = near(alloc, b, da)?;
+    let after = xor(alloc, before.rows(), db)?;
+    let part = left_change(alloc, op, da, after.rows())?;
+    Ok(part)
+}
+
+// Where a change of the right operand changes the value, with the left operand as it was.
+fn right_near(alloc: Global, op: Op2, a: &Tiles, db: Rows<'_>) -> Result<Solid, NoMemory>
+    requires { (vertices_of db).dim ≡ a.now.dim }
+    ensures { IfOk result (λ s. s ≡ right_change op a.now (vertices_of db.entry)) }
+{
+    if db.len() == 0 {
+        let none = Solid::empty(alloc, db.dim());
+        return Ok(none);
+    }
+    let before = near(alloc, a, db)?;
+    let part = right_change(alloc, op, before.rows(), db)?;
+    Ok(part)
+}
+
+/// The change of `op` where its operand `a` changes by `da`, so that it becomes `a xor da`, and `b` by `db`: the exclusive
+/// or of the value before and after.
+///
+/// All four have one dimension, and so has the answer. Of each tree only the window at the least box of the other operand's
+/// change is looked at, and of none for `Xor`. Takes memory for the two windows, for the two changes that are cut down, and
+/// for the right window after the change.
+///
+/// # Errors
+///
+/// `NoMemory` where memory lacks; the trees stay as they are.
+pub fn delta2(
+    alloc: Global,
+    op: Op2,
+    a: &Tiles,
+    da: Rows<'_>,
+    b: &Tiles,
+    db: Rows<'_>,
+) -> Result<Solid, NoMemory>
+    requires left { (vertices_of da).dim ≡ a.now.dim }
+    requires other { b.now.dim ≡ a.now.dim }
+    requires right { (vertices_of db).dim ≡ a.now.dim }
+    ensures vertices { IfOk result (λ s. s ≡ change_vertices op a.now (vertices_of da.entry) b.now (vertices_of db.entry)) }
+    ensures cells { IfOk result (λ s. IsChange op a.now (vertices_of da.entry) b.now (vertices_of db.entry) s) }
+
+    // The value before becomes the value after.
+    ensures carries { IfOk result (λ s. Carries op a.now (vertices_of da.entry) b.now (vertices_of db.entry) s) }
+{
+    if op == Op2::Xor {
+        let made = xor(alloc, da, db)?;
+        return Ok(made);
+    }
+    let left = left_near(alloc, op, da, b, db)?;
+    let right = right_near(alloc, op, a, db)?;
+    let made = xor(alloc, left.rows(), right.rows())?;
+    Ok(made)
+}
