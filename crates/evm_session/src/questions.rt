@@ -17,13 +17,14 @@ use evm_script::{Name, Nums};
 use std::alloc::Global;
 
 /// The extreme vertices.
-pub fn show(scene: &Scene, name: &Name, out: &mut Vec<u8>) -> Result<(), Refusal>
+pub fn show(scene: &Scene, alloc: Global, name: &Name, out: &mut Vec<u8>) -> Result<(), Refusal>
     ensures { Carries result scene.now scene.now out.old.items out.new.items (turn_of no_files scene.now (commands.Show name.now)) }
 {
-    let Some(solid) = scene.kept(name) else {
+    let Some(tree) = scene.kept(name) else {
         return Err(Refusal::Name);
     };
-    say_solid(out, solid)?;
+    let solid = tree.to_rows(alloc)?;
+    say_solid(out, &solid)?;
     Ok(())
 }
 
@@ -31,9 +32,10 @@ pub fn show(scene: &Scene, name: &Name, out: &mut Vec<u8>) -> Result<(), Refusal
 pub fn content(scene: &Scene, alloc: Global, name: &Name, out: &mut Vec<u8>) -> Result<(), Refusal>
     ensures { Carries result scene.now scene.now out.old.items out.new.items (turn_of no_files scene.now (commands.Content name.now)) }
 {
-    let Some(solid) = scene.kept(name) else {
+    let Some(tree) = scene.kept(name) else {
         return Err(Refusal::Name);
     };
+    let solid = tree.to_rows(alloc)?;
     let cells = measure::content(alloc, solid.rows())?;
     say_number(out, cells)?;
     Ok(())
@@ -43,9 +45,10 @@ pub fn content(scene: &Scene, alloc: Global, name: &Name, out: &mut Vec<u8>) -> 
 pub fn boundary(scene: &Scene, alloc: Global, name: &Name, out: &mut Vec<u8>) -> Result<(), Refusal>
     ensures { Carries result scene.now scene.now out.old.items out.new.items (turn_of no_files scene.now (commands.Boundary name.now)) }
 {
-    let Some(solid) = scene.kept(name) else {
+    let Some(tree) = scene.kept(name) else {
         return Err(Refusal::Name);
     };
+    let solid = tree.to_rows(alloc)?;
     let faces = measure::boundary(alloc, solid.rows())?;
     say_number(out, faces)?;
     Ok(())
@@ -55,11 +58,11 @@ pub fn boundary(scene: &Scene, alloc: Global, name: &Name, out: &mut Vec<u8>) ->
 pub fn at(scene: &Scene, name: &Name, nums: &Nums, out: &mut Vec<u8>) -> Result<(), Refusal>
     ensures { Carries result scene.now scene.now out.old.items out.new.items (turn_of no_files scene.now (commands.At name.now nums.now)) }
 {
-    let Some(solid) = scene.kept(name) else {
+    let Some(tree) = scene.kept(name) else {
         return Err(Refusal::Name);
     };
-    solid.facts();
-    let dim = solid.dim();
+    tree.facts();
+    let dim = tree.dim();
     if nums.len() != dim {
         return Err(Refusal::Dim);
     }
@@ -88,11 +91,11 @@ fn filled_text(filled: bool) -> &'static [u8]
 pub fn point(scene: &Scene, name: &Name, nums: &Nums, out: &mut Vec<u8>) -> Result<(), Refusal>
     ensures { Carries result scene.now scene.now out.old.items out.new.items (turn_of no_files scene.now (commands.Point name.now nums.now)) }
 {
-    let Some(solid) = scene.kept(name) else {
+    let Some(tree) = scene.kept(name) else {
         return Err(Refusal::Name);
     };
-    solid.facts();
-    let dim = solid.dim();
+    tree.facts();
+    let dim = tree.dim();
     if nums.len() != dim {
         return Err(Refusal::Dim);
     }
@@ -100,6 +103,7 @@ pub fn point(scene: &Scene, name: &Name, nums: &Nums, out: &mut Vec<u8>) -> Resu
     let Some(point) = nums.between(-limit, limit) else {
         return Err(Refusal::Range);
     };
+    let solid = tree.to_rows(alloc)?;
     let place = place(solid.rows(), point.values());
     say(out, placed_text(place))?;
     Ok(())

@@ -51,18 +51,18 @@ pub fn section(
     ensures { Carries result scene.now scene.now out.old.items out.new.items (turn_of no_files scene.now (commands.Section name.now axis.now at.now)) }
 {
     scene.facts();
-    let Some(solid) = scene.kept(name) else {
+    let Some(tree) = scene.kept(name) else {
         return Err(Refusal::Name);
     };
-    solid.facts();
-    let dim = solid.dim();
+    tree.facts();
+    let dim = tree.dim();
     let Some(along) = axis_of(axis, dim) else {
         return Err(Refusal::Dim);
     };
     let Some(at) = height_of(at, dim) else {
         return Err(Refusal::Range);
     };
-    let section = shapes::slice(alloc, solid.rows(), along, at)?;
+    let section = section_of(alloc, tree, along, at)?;
     say_solid(out, &section)?;
     Ok(())
 }
@@ -78,14 +78,15 @@ pub fn project(
     ensures { Carries result scene.now scene.now out.old.items out.new.items (turn_of no_files scene.now (commands.Project name.now axis.now)) }
 {
     scene.facts();
-    let Some(solid) = scene.kept(name) else {
+    let Some(tree) = scene.kept(name) else {
         return Err(Refusal::Name);
     };
-    solid.facts();
-    let dim = solid.dim();
+    tree.facts();
+    let dim = tree.dim();
     let Some(axis) = axis_of(axis, dim) else {
         return Err(Refusal::Dim);
     };
+    let solid = tree.to_rows(alloc)?;
     let shadow = shapes::project(alloc, solid.rows(), axis)?;
     say_solid(out, &shadow)?;
     Ok(())
