@@ -1,6 +1,6 @@
 -- The change of a Boolean where its operands change.
 --     A change is the exclusive or of the cells before and after: an operand A that changes by DA becomes A xor DA.
-use Rattle.std.specs.Prelude.{ℕ, Bool, true, not, ◌&&◌, ℤ, List}
+use Rattle.std.specs.Prelude.{◌≡◌, ℕ, Bool, true, not, ◌&&◌, ℤ, List}
 use Rattle.evm_cells.specs.Booleans.{combine, xor_cells}
 use Rattle.evm_cells.specs.Vertices.{evm, cells}
 use Rattle.evm_rows.specs.Rows.{Vertices, cells_of}
@@ -45,3 +45,11 @@ left_change op da b = record { dim = da.dim; rows = evm da.dim (combine (λ d r.
 -- where a change of the right operand changes the value
 unfoldable pub right_change : Op2 → Vertices → Vertices → Vertices
 right_change op a db = record { dim = db.dim; rows = evm db.dim (combine (λ d l. d && follows_right op l) db.dim (cells db.dim db.rows) (cells db.dim a.rows)) }
+
+-- the solid s is the exclusive or of the value before and after
+abbrev pub IsChange : Op2 → Vertices → Vertices → Vertices → Vertices → Vertices → Type 0
+IsChange op a da b db s = cells_of s ≡ xor_cells s.dim (value_before op a b) (value_after op a da b db)
+
+-- the value before, changed by s, is the value after
+abbrev pub Carries : Op2 → Vertices → Vertices → Vertices → Vertices → Vertices → Type 0
+Carries op a da b db s = xor_cells s.dim (value_before op a b) (cells_of s) ≡ value_after op a da b db

@@ -33,6 +33,5 @@ pub fn shape_change(alloc: Global, op: &Op1, a: &Tiles, da: &Solid) -> Result<So
     ensures dim { IfOk result (λ d. d.dim ≡ op1_dim op.now a.now.dim) }
     ensures range { IsErrOf result DeltaError.Range ↔ (shape_stays op.now (xor_of (figure_of a.now) (figure_of da.now)) ≡ false) }
 {
-    let whole = a.to_rows(alloc)?;
-    evm_delta::delta1(alloc, op, whole.rows(), da.rows())
+    evm_delta::delta1(alloc, op, a, da.rows())
 }

@@ -99,6 +99,6 @@ pub fn change(
     ensures carries { IfOk result (λ d. xor_of (combine_of op (figure_of a.now) (figure_of b.now)) (figure_of d) ≡ combine_of op (xor_of (figure_of a.now) (figure_of da.now)) (xor_of (figure_of b.now) (figure_of db.now))) }
     ensures dim { IfOk result (λ d. d.dim ≡ a.now.dim) }
 {
-    let made = evm_windows::delta2(alloc, op, a, da, b, db)?;
+    let made = evm_delta::delta2(alloc, op, a, da.rows(), b, db.rows())?;
     Ok(made)
 }

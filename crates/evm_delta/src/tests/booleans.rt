@@ -2,6 +2,7 @@ use super::has_rows;
 use crate::delta2;
 use evm_boolean::Op2;
 use evm_rows::{NoMemory, Solid};
+use evm_tiles::Tiles;
 use std::alloc::Global;
 
 // The change of `op` where both operands are a square of side 2, the left one changes by a square of side 2 that begins in
@@ -15,7 +16,8 @@ fn change(alloc: Global, op: Op2, both: bool) -> Result<Solid, NoMemory> {
     };
     let none = Solid::empty(alloc, 2);
     let db = if both { da.rows() } else { none.rows() };
-    delta2(alloc, op, a.rows(), da.rows(), a.rows(), db)
+    let tree = Tiles::from_rows(alloc, a.rows())?;
+    delta2(alloc, op, &tree, da.rows(), &tree, db)
 }
 
 #[test]

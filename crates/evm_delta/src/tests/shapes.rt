@@ -5,6 +5,7 @@ use super::has_rows;
 use crate::{DeltaError, Op1, delta1, shape};
 use evm_rows::Solid;
 use evm_script::Nums;
+use evm_tiles::Tiles;
 use std::alloc::Global;
 
 // The shape of the cells (0, 0) and (1, 0), and its change where they become (0, 0) and (2, 0).
@@ -18,7 +19,8 @@ fn change(alloc: Global, op: &Op1) -> Result<(Solid, Solid), DeltaError>
         return Err(DeltaError::NoMemory);
     };
     let before = shape(alloc, op, a.rows())?;
-    let change = delta1(alloc, op, a.rows(), da.rows())?;
+    let tree = Tiles::from_rows(alloc, a.rows())?;
+    let change = delta1(alloc, op, &tree, da.rows())?;
     Ok((before, change))
 }
 
@@ -72,7 +74,8 @@ fn risen(alloc: Global, prism: &Op1, base: &Solid) -> Result<Solid, DeltaError>
 {
     let none = Solid::empty(alloc, 3);
     let _before = shape(alloc, prism, none.rows())?;
-    delta1(alloc, prism, none.rows(), base.rows())
+    let tree = Tiles::from_rows(alloc, none.rows())?;
+    delta1(alloc, prism, &tree, base.rows())
 }
 
 // A prism in four dimensions, over a base up to the limit of these and past it.

@@ -14,21 +14,21 @@ use Rattle.evm_delta.proofs.shape_changes.delta1.Goals as goal
 
 pub returns-then-len-eq0-clause-vertices : goal.returns-then-len-eq0-clause-vertices
 returns-then-len-eq0-clause-vertices c =
-    let a : Vertices = vertices_of c.args.a in
+    let a : Vertices = c.args.a.now in
     let da : Vertices = vertices_of c.args.da in
     let none : da.rows ≡ [] = no_rows da (sym c.len.ensures ∙ c.if-len-eq0.true) in
-    let dim : c.empty.result.dim ≡ op1_dim c.args.op.now a.dim = c.empty.ensures.dim ∙ c.dim_of.ensures ∙ ap (op1_dim c.args.op.now) c.dim.ensures in
+    let dim : c.empty.result.dim ≡ op1_dim c.args.op.now a.dim = c.empty.ensures.dim ∙ c.dim_of.ensures ∙ ap (op1_dim c.args.op.now) (c.dim.ensures ∙ c.requires.same_dim) in
     nothing_is c.args.op.now a da c.empty.result c.requires.fits none dim c.empty.ensures.rows
 
 pub returns-then-len-eq0-clause-cells : goal.returns-then-len-eq0-clause-cells
-returns-then-len-eq0-clause-cells c = shape_change_cells c.args.op.now (vertices_of c.args.a) (vertices_of c.args.da) c.empty.result (returns-then-len-eq0-clause-vertices c)
+returns-then-len-eq0-clause-cells c = shape_change_cells c.args.op.now c.args.a.now (vertices_of c.args.da) c.empty.result (returns-then-len-eq0-clause-vertices c)
 
 pub returns-then-len-eq0-clause-carries : goal.returns-then-len-eq0-clause-carries
-returns-then-len-eq0-clause-carries c = shape_change_carries c.args.op.now (vertices_of c.args.a) (vertices_of c.args.da) c.empty.result c.requires.fits (returns-then-len-eq0-clause-vertices c)
+returns-then-len-eq0-clause-carries c = shape_change_carries c.args.op.now c.args.a.now (vertices_of c.args.da) c.empty.result c.requires.fits (returns-then-len-eq0-clause-vertices c)
 
 pub returns-then-len-eq0-clause-range : goal.returns-then-len-eq0-clause-range
 returns-then-len-eq0-clause-range c =
-    let a : Vertices = vertices_of c.args.a in
+    let a : Vertices = c.args.a.now in
     let da : Vertices = vertices_of c.args.da in
     let none : da.rows ≡ [] = no_rows da (sym c.len.ensures ∙ c.if-len-eq0.true) in
     let fits : in_range c.args.op.now a.dim (changed_cells a da) ≡ true = ap (in_range c.args.op.now a.dim) (stays a da none) ∙ c.requires.stands in
@@ -36,49 +36,49 @@ returns-then-len-eq0-clause-range c =
 
 -- ---- a projection
 
-pub returns-in_ok-projection_change-in-Proj-clause-dim : goal.returns-in_ok-projection_change-in-Proj-clause-dim
-returns-in_ok-projection_change-in-Proj-clause-dim c =
-    let a : Vertices = vertices_of c.args.a in
+pub returns-in_ok-projection_near-in-Proj-clause-dim : goal.returns-in_ok-projection_near-in-Proj-clause-dim
+returns-in_ok-projection_near-in-Proj-clause-dim c =
+    let a : Vertices = c.args.a.now in
     let da : Vertices = vertices_of c.args.da in
-    shape_change_dim c.args.op.now a da c.in_ok-projection_change-in-Proj.field-0 (c.in_ok-projection_change-in-Proj.ensures ∙ ap (λ (o : Op1). shape_change o a da) (sym c.in-Proj.is))
+    shape_change_dim c.args.op.now a da c.in_ok-projection_near-in-Proj.field-0 (c.in_ok-projection_near-in-Proj.ensures ∙ ap (λ (o : Op1). shape_change o a da) (sym c.in-Proj.is))
 
-pub returns-in_ok-projection_change-in-Proj-clause-cells : goal.returns-in_ok-projection_change-in-Proj-clause-cells
-returns-in_ok-projection_change-in-Proj-clause-cells c =
-    let a : Vertices = vertices_of c.args.a in
+pub returns-in_ok-projection_near-in-Proj-clause-cells : goal.returns-in_ok-projection_near-in-Proj-clause-cells
+returns-in_ok-projection_near-in-Proj-clause-cells c =
+    let a : Vertices = c.args.a.now in
     let da : Vertices = vertices_of c.args.da in
-    shape_change_cells c.args.op.now a da c.in_ok-projection_change-in-Proj.field-0 (c.in_ok-projection_change-in-Proj.ensures ∙ ap (λ (o : Op1). shape_change o a da) (sym c.in-Proj.is))
+    shape_change_cells c.args.op.now a da c.in_ok-projection_near-in-Proj.field-0 (c.in_ok-projection_near-in-Proj.ensures ∙ ap (λ (o : Op1). shape_change o a da) (sym c.in-Proj.is))
 
-pub returns-in_ok-projection_change-in-Proj-clause-carries : goal.returns-in_ok-projection_change-in-Proj-clause-carries
-returns-in_ok-projection_change-in-Proj-clause-carries c =
-    let a : Vertices = vertices_of c.args.a in
+pub returns-in_ok-projection_near-in-Proj-clause-carries : goal.returns-in_ok-projection_near-in-Proj-clause-carries
+returns-in_ok-projection_near-in-Proj-clause-carries c =
+    let a : Vertices = c.args.a.now in
     let da : Vertices = vertices_of c.args.da in
-    shape_change_carries c.args.op.now a da c.in_ok-projection_change-in-Proj.field-0 c.requires.fits (c.in_ok-projection_change-in-Proj.ensures ∙ ap (λ (o : Op1). shape_change o a da) (sym c.in-Proj.is))
+    shape_change_carries c.args.op.now a da c.in_ok-projection_near-in-Proj.field-0 c.requires.fits (c.in_ok-projection_near-in-Proj.ensures ∙ ap (λ (o : Op1). shape_change o a da) (sym c.in-Proj.is))
 
 -- ---- another shape
 
 pub returns-in_default-clause-vertices : goal.returns-in_default-clause-vertices
 returns-in_default-clause-vertices c =
-    let a : Vertices = vertices_of c.args.a in
+    let a : Vertices = c.args.a.now in
     let da : Vertices = vertices_of c.args.da in
     IfOk-weaker c.shape.result (λ s. s ≡ shape_vertices c.args.op.now da) (λ s. s ≡ shape_change c.args.op.now a da)
     (λ s e. carried_is c.args.op.now a da s c.in_default.not-Proj c.requires.same_dim c.requires.fits e) c.shape.ensures.vertices
 
 pub returns-in_default-clause-dim : goal.returns-in_default-clause-dim
 returns-in_default-clause-dim c =
-    let a : Vertices = vertices_of c.args.a in
+    let a : Vertices = c.args.a.now in
     let da : Vertices = vertices_of c.args.da in
     IfOk-weaker c.shape.result (λ s. s ≡ shape_change c.args.op.now a da) (λ s. s.dim ≡ op1_dim c.args.op.now a.dim) (λ s e. shape_change_dim c.args.op.now a da s e) (returns-in_default-clause-vertices c)
 
 pub returns-in_default-clause-cells : goal.returns-in_default-clause-cells
 returns-in_default-clause-cells c =
-    let a : Vertices = vertices_of c.args.a in
+    let a : Vertices = c.args.a.now in
     let da : Vertices = vertices_of c.args.da in
     IfOk-weaker c.shape.result (λ s. s ≡ shape_change c.args.op.now a da) (λ s. cells_of s ≡ xor_cells s.dim (shape_before c.args.op.now a) (shape_after c.args.op.now a da))
     (λ s e. shape_change_cells c.args.op.now a da s e) (returns-in_default-clause-vertices c)
 
 pub returns-in_default-clause-carries : goal.returns-in_default-clause-carries
 returns-in_default-clause-carries c =
-    let a : Vertices = vertices_of c.args.a in
+    let a : Vertices = c.args.a.now in
     let da : Vertices = vertices_of c.args.da in
     IfOk-weaker c.shape.result (λ s. s ≡ shape_change c.args.op.now a da) (λ s. xor_cells s.dim (shape_before c.args.op.now a) (cells_of s) ≡ shape_after c.args.op.now a da)
     (λ s e. shape_change_carries c.args.op.now a da s c.requires.fits e) (returns-in_default-clause-vertices c)
@@ -88,6 +88,6 @@ range_follows P x y e h = (λ p. sym e ∙ h.0 p, λ q. h.1 (e ∙ q))
 
 pub returns-in_default-clause-range : goal.returns-in_default-clause-range
 returns-in_default-clause-range c =
-    let a : Vertices = vertices_of c.args.a in
+    let a : Vertices = c.args.a.now in
     let da : Vertices = vertices_of c.args.da in
     range_follows _ (in_range c.args.op.now da.dim (cells_of da)) (in_range c.args.op.now a.dim (changed_cells a da)) (range_is c.args.op.now a da c.requires.same_dim c.requires.stands) c.shape.ensures.range

@@ -28,4 +28,4 @@ returns-clause-value c =
     let n : ℕ = c.args.own.now.dim in
     let lo : c.split_at.result.0.now ≡ take n c.args.nums.now = c.split_at.ensures.front ∙ (λ i. take (c.dim-dim.ensures i) ((c.values.ensures ∙ c.in-Some.ensures.1) i)) in
     let hi : c.split_at.result.1.now ≡ drop n c.args.nums.now = c.split_at.ensures.back ∙ (λ i. drop (c.dim-dim.ensures i) ((c.values.ensures ∙ c.in-Some.ensures.1) i)) in
-    part_figure c.args.own.now c.in_ok-part.part c.args.nums.now c.split_at.result.0.now c.split_at.result.1.now lo hi c.in_ok-part.ensures.dim c.in_ok-part.ensures.cells
+    part_figure c.args.own.now c.in_ok-part-in-Some.part c.args.nums.now c.split_at.result.0.now c.split_at.result.1.now lo hi c.in_ok-part-in-Some.ensures.dim c.in_ok-part-in-Some.ensures.cells

@@ -10,7 +10,7 @@ use Rattle.evm_delta.specs.declared.shapes.Op1.TheVariants.{Proj}
 use Rattle.evm_delta.specs.Shapes.{shape_change}
 use Rattle.evm_delta.proofs.Deltas.{from_both}
 use Rattle.evm_delta.proofs.Shadows.{Shows, own_cells, shows_proj, shows_lift, shows_and, shows_xor, columns_in, shadow_is, fits_shown}
-use Rattle.evm_delta.proofs.shape_changes.projection_change.Goals as goal
+use Rattle.evm_delta.proofs.flat.projection_change.Goals as goal
 
 pub columns-requires-clause-fits : goal.columns-requires-clause-fits
 columns-requires-clause-fits c =

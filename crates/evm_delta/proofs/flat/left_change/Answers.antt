@@ -5,7 +5,7 @@ use Rattle.evm_rows.specs.View.{vertices_of}
 use Rattle.evm_boolean.specs.Tower.{and_vertices, sub_vertices}
 use Rattle.evm_delta.specs.Changes.{left_change}
 use Rattle.evm_delta.proofs.Deltas.{left_or, left_and, left_sub, left_xor, from_both}
-use Rattle.evm_delta.proofs.left_change.Goals as goal
+use Rattle.evm_delta.proofs.flat.left_change.Goals as goal
 
 pub returns-in-Or : goal.returns-in-Or
 returns-in-Or c =

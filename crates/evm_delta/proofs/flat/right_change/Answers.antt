@@ -5,7 +5,7 @@ use Rattle.evm_rows.specs.View.{vertices_of}
 use Rattle.evm_boolean.specs.Tower.{and_vertices, sub_vertices}
 use Rattle.evm_delta.specs.Changes.{right_change}
 use Rattle.evm_delta.proofs.Deltas.{right_or, right_and, right_sub, right_xor, from_both}
-use Rattle.evm_delta.proofs.right_change.Goals as goal
+use Rattle.evm_delta.proofs.flat.right_change.Goals as goal
 
 pub returns-in-Or : goal.returns-in-Or
 returns-in-Or c =
