@@ -29,7 +29,7 @@ cut_at false b = refl
 
 module _ (n : ℕ) (A B : List (List ℤ)) (a : IsCellSet n A) (b : IsCellSet n B) where
   both : IsCellSet n (and_cells n A B)
-  both = (cell_sets n A B).1.0
+  both = (cell_sets n A B).1
 
   has_both : (c : List ℤ) → has (and_cells n A B) c ≡ (has A c && has B c)
   unfolding and_cells
@@ -55,7 +55,7 @@ module _ (n : ℕ) (A B : List (List ℤ)) (a : IsCellSet n A) (b : IsCellSet n 
   cut_cells : xor_cells n A (and_cells n A B) ≡ sub_cells n A B
   cut_cells =
       let x : IsCellSet n (xor_cells n A (and_cells n A B)) = cell_set-xor n A (and_cells n A B) in
-      let y : IsCellSet n (sub_cells n A B) = (cell_sets n A B).1.1.0 in
+      let y : IsCellSet n (sub_cells n A B) = (cell_sets n A B).2 in
       same_sets (xor_cells n A (and_cells n A B)) (sub_cells n A B) x.ascends y.ascends
       (λ c. has-xor_cells n A (and_cells n A B) c a both ∙ ap (xor (has A c)) (has_both c) ∙ cut_at (has A c) (has B c) ∙ sym (has_first c))
 

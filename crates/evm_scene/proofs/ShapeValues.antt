@@ -110,7 +110,7 @@ range_by P x y e h = (λ p. sym e ∙ h.0 p, λ q. h.1 (e ∙ q))
 
 pub stays_by : {A : Type 0} (r : Result A DeltaError) (x y : Bool) → x ≡ y → IsErrOf r errors.Range ↔ (x ≡ false) → IfOk r (λ _. y ≡ true)
 stays_by (Ok a) true y e h = sym e
-stays_by (Ok a) false y e h = absurd (h.1 refl)
+stays_by (Ok a) false y e h = absurd (let clash = h.1 refl in cc)
 stays_by (Err d) x y e h = tt
 
 pub range_only : (P : Type 0) (x y : Bool) → x ≡ y → P ↔ (x ≡ false) → P → y ≡ false

@@ -38,7 +38,7 @@ pub struct Change {
     pub after: Tiles,
 }
 
-/// The change of a solid to another.
+/// The change of a solid to another. Takes memory for the rows of both, and for the change.
 pub fn changed_to(alloc: Global, own: &Tiles, after: Solid) -> Result<Change, NoMemory>
     requires { after.dim ≡ own.now.dim }
     ensures after { IfOk result (λ c. c.after ≡ after) }

@@ -72,7 +72,7 @@ fn write_form(alloc: Global, form: &SaveForm, solid: &Solid) -> Result<Vec<u8>, 
 
 /// Places the solid of a name as a file, and tells how many bytes it has. The room for the reply comes before the file.
 ///
-/// It is `Name` where the name does not stand, and `Shelf` where the shelf failed. Takes memory for the bytes.
+/// It is `Name` where the name does not stand, and `Shelf` where the shelf failed. Takes memory for the rows and the bytes.
 pub fn save<S: Shelf>(
     scene: &Scene,
     alloc: Global,

@@ -10,7 +10,8 @@ ghost use Rattle.evm_script.specs.declared.command.Command.TheVariants as comman
 use super::refusals::Refusal;
 use super::replies::{say, say_number, say_solid};
 use evm_measure as measure;
-use evm_member::{Place, fills, place};
+use super::cells::is_filled;
+use evm_member::{Place, place};
 use evm_rows::limit;
 use evm_scene::Scene;
 use evm_script::{Name, Nums};
@@ -55,7 +56,13 @@ pub fn boundary(scene: &Scene, alloc: Global, name: &Name, out: &mut Vec<u8>) ->
 }
 
 /// Whether a cell is filled.
-pub fn at(scene: &Scene, name: &Name, nums: &Nums, out: &mut Vec<u8>) -> Result<(), Refusal>
+pub fn at(
+    scene: &Scene,
+    alloc: Global,
+    name: &Name,
+    nums: &Nums,
+    out: &mut Vec<u8>,
+) -> Result<(), Refusal>
     ensures { Carries result scene.now scene.now out.old.items out.new.items (turn_of no_files scene.now (commands.At name.now nums.now)) }
 {
     let Some(tree) = scene.kept(name) else {
@@ -70,7 +77,7 @@ pub fn at(scene: &Scene, name: &Name, nums: &Nums, out: &mut Vec<u8>) -> Result<
     let Some(cell) = nums.between(-limit, limit - 1) else {
         return Err(Refusal::Range);
     };
-    let filled = fills(solid.rows(), cell.values());
+    let filled = is_filled(alloc, tree, cell.values())?;
     say(out, filled_text(filled))?;
     Ok(())
 }
@@ -88,7 +95,13 @@ fn filled_text(filled: bool) -> &'static [u8]
 }
 
 /// Where a point stands.
-pub fn point(scene: &Scene, name: &Name, nums: &Nums, out: &mut Vec<u8>) -> Result<(), Refusal>
+pub fn point(
+    scene: &Scene,
+    alloc: Global,
+    name: &Name,
+    nums: &Nums,
+    out: &mut Vec<u8>,
+) -> Result<(), Refusal>
     ensures { Carries result scene.now scene.now out.old.items out.new.items (turn_of no_files scene.now (commands.Point name.now nums.now)) }
 {
     let Some(tree) = scene.kept(name) else {
