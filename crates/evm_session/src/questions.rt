@@ -7,10 +7,10 @@ ghost use Rattle.evm_session.specs.Carried.{Carries};
 ghost use Rattle.evm_session.specs.Questions.{filled_text, placed_text};
 ghost use Rattle.evm_script.specs.declared.command.Command.TheVariants as commands;
 
+use super::cells::is_filled;
 use super::refusals::Refusal;
 use super::replies::{say, say_number, say_solid};
 use evm_measure as measure;
-use super::cells::is_filled;
 use evm_member::{Place, place};
 use evm_rows::limit;
 use evm_scene::Scene;
