@@ -41,6 +41,11 @@ unfolding xor_of
 xor_figure a b s same d c =
     figure_with s (xor_of (figure_of a) (figure_of b)) d (c ∙ ap (λ (n : ℕ). xor_cells a.dim (cells a.dim a.rows) (cells n b.rows)) (sym same))
 
+-- the same of a tree and a borrowed view
+pub changed_made : (a b vb s : Vertices) → vb ≡ b → s.dim ≡ a.dim → cells_of s ≡ xor_cells a.dim (cells_of a) (cells_of vb) → figure_of s ≡ xor_of (figure_of a) (figure_of b)
+unfolding xor_of
+changed_made a b vb s e d c = figure_with s (xor_of (figure_of a) (figure_of b)) d (c ∙ ap (λ (v : Vertices). xor_cells a.dim (cells_of a) (cells_of v)) e)
+
 pub xor_back : (a b : Figure) → b.dim ≡ a.dim → IsCellSet a.dim a.cells → IsCellSet b.dim b.cells → xor_of a (xor_of a b) ≡ b
 unfolding xor_of
 xor_back a b same x y =

@@ -18,6 +18,7 @@ pub mod Installed
 pub mod OwnLast
 pub mod Counted
 pub mod Corners
+pub mod BoxChanges
 pub mod Causes
 pub mod Planned
 pub mod OtherFigures

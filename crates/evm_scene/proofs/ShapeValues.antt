@@ -1,5 +1,7 @@
 -- Shapes of figures are the shapes of their cells.
-use Rattle.std.proofs.Common.{◌≡◌, ◌↔◌, ℕ, Bool, false, List, [], ℤ, Some, refl, sym, ap, ◌∙◌}
+use Rattle.std.proofs.Common.{◌≡◌, ◌↔◌, ℕ, Bool, true, false, List, [], ℤ, Some, Result, Ok, Err, IfOk, IsErrOf, refl, sym, ap, ◌∙◌}
+use Rattle.evm_delta.specs.declared.shapes.DeltaError.{DeltaError}
+use Rattle.evm_delta.specs.declared.shapes.DeltaError.TheVariants as errors
 use Rattle.evm_cells.specs.Limits.{IsCellSet}
 use Rattle.evm_cells.specs.Vertices.{cells}
 use Rattle.evm_cells.specs.Booleans.{xor_cells}
@@ -105,6 +107,14 @@ module _ (op : Op1) (a va : Vertices) (ea : va ≡ a) where
 -- what a call answers
 pub range_by : (P : Type 0) (x y : Bool) → x ≡ y → P ↔ (x ≡ false) → P ↔ (y ≡ false)
 range_by P x y e h = (λ p. sym e ∙ h.0 p, λ q. h.1 (e ∙ q))
+
+pub stays_by : {A : Type 0} (r : Result A DeltaError) (x y : Bool) → x ≡ y → IsErrOf r errors.Range ↔ (x ≡ false) → IfOk r (λ _. y ≡ true)
+stays_by (Ok a) true y e h = sym e
+stays_by (Ok a) false y e h = absurd (let clash = h.1 refl in cc)
+stays_by (Err d) x y e h = tt
+
+pub range_only : (P : Type 0) (x y : Bool) → x ≡ y → P ↔ (x ≡ false) → P → y ≡ false
+range_only P x y e h p = sym e ∙ h.0 p
 
 -- a change of the operand that does not change the shape
 pub still_shape : (op : Op1) (own a : Figure) (c : Change) (d : Vertices) → IsCellSet own.dim own.cells → own ≡ shape_of op a → IsChange (Some c) a

@@ -11,7 +11,7 @@ ghost use Rattle.evm_scene.specs.Orders.{IsKept};
 use super::edit::{Changed, Refusal};
 use super::node::Node;
 use super::numbers::stated;
-use super::solids::none;
+use super::solids::{none, tree_of};
 use evm_rows::NoMemory;
 use evm_script::{Name, Num};
 use indexmap::IndexMap;
@@ -75,10 +75,14 @@ pub fn input(
     let Some(n) = stated(dim) else {
         return Err(Refusal::Dim);
     };
+    let none = none(alloc, n);
+    let Ok(solid) = tree_of(alloc, &none) else {
+        return Err(Refusal::NoMemory);
+    };
     let node = Node {
         dim: n,
         formula: None,
-        solid: none(alloc, n),
+        solid,
     };
     match add(table, order, name, node) {
         Ok(()) => Ok(Changed { names: 0 }),

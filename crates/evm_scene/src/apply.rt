@@ -18,8 +18,9 @@ impl Scene {
     /// Makes an edit, and answers how many names stood before and after and changed their cells.
     ///
     /// A refused edit leaves the scene as it is; the refusal is the first cause that holds, in the order of `Refusal`, or
-    /// `NoMemory`, which may come at any edit. Takes memory for the change of each name that changes, and its solid after; a
-    /// solid that the edit brings is taken as it is, or dropped where the edit is refused.
+    /// `NoMemory`, which may come at any edit. Takes memory for the change of each name that changes, and for what of its tree the
+    /// change meets. Another solid of an input or formula, and a new formula, take the rows of the solid before, of the operands and
+    /// of the solid after as well.
     pub fn apply(&mut self, alloc: Global, edit: Edit) -> Result<Changed, Refusal>
         ensures { Applies result self.old self.new (edit_view edit) }
     {

@@ -1,6 +1,7 @@
 //! Edits of inputs by boxes.
 
-ghost use Rattle.std.specs.Prelude.{◌≡◌, ℕ, List, Some, IfOk, MatchResult};
+ghost use Rattle.std.specs.Prelude.{◌≡◌, ◌*◌, ℕ, List, length, true, Some, IfOk, MatchResult};
+ghost use Rattle.evm_model.specs.Figures.{box_fits, low_of, high_of, box_at, clip_of, xor_of};
 ghost use Rattle.evm_model.specs.Scene.{value};
 ghost use Rattle.evm_scene.specs.Tables.{figure_of, node_at, kept, dim_at, NodeSized, scene_of};
 ghost use Rattle.evm_scene.specs.Orders.{IsKept};
@@ -10,12 +11,12 @@ ghost use Rattle.evm_scene.specs.InputEdits.{figure_by, edit_by, IsRefused, IsPl
 
 use super::edit::{Changed, Refusal};
 use super::inputs::set_input;
-use super::node::{Change, Node, changed_to};
+use super::node::{Change, Node};
 use super::numbers::box_of;
-use super::solids::{combine, exclusive_or};
-use evm_boolean::Op2;
-use evm_rows::{NoMemory, Solid};
+use super::solids::{changed, exclusive_or};
+use evm_rows::{NoMemory, Solid, limit};
 use evm_script::{Name, Nums};
+use evm_tiles::Tiles;
 use indexmap::IndexMap;
 use std::alloc::Global;
 
@@ -30,29 +31,74 @@ pub enum BoxEdit {
     Cut,
 }
 
+/// What of a solid is in the box that the numbers state.
+fn part_in(alloc: Global, own: &Tiles, nums: &Nums) -> Result<Solid, NoMemory>
+    requires both { length nums.now ≡ 2 * own.now.dim }
+    requires fits { box_fits (low_of own.now.dim nums.now) (high_of own.now.dim nums.now) ≡ true }
+    ensures value { IfOk result (λ s. figure_of s ≡ clip_of nums.now (figure_of own.now)) }
+    ensures dim { IfOk result (λ s. s.dim ≡ own.now.dim) }
+{
+    own.facts();
+    let dim = own.dim();
+    let limit = limit(dim);
+    match nums.between(-limit, limit) {
+        Some(corners) => {
+            let (lo, hi) = corners.values().split_at(dim);
+            let part = own.window(alloc, lo, hi)?;
+            Ok(part)
+        }
+        None => unreachable!(),
+    }
+}
+
+/// How a solid changes by the box `cuboid`, which the numbers state: a cell of the box changes always, or only where it is empty, or
+/// only where it is filled. Beside the box only what the solid has in it is looked at.
+fn box_delta(
+    alloc: Global,
+    edit: BoxEdit,
+    own: &Tiles,
+    cuboid: Solid,
+    nums: &Nums,
+) -> Result<Solid, NoMemory>
+    requires both { length nums.now ≡ 2 * own.now.dim }
+    requires fits { box_fits (low_of own.now.dim nums.now) (high_of own.now.dim nums.now) ≡ true }
+    requires cuboid { figure_of cuboid ≡ box_at own.now.dim nums.now }
+    requires same { cuboid.dim ≡ own.now.dim }
+    ensures value { IfOk result (λ d. xor_of (figure_of own.now) (figure_of d) ≡ figure_by edit (figure_of own.now) (figure_of cuboid)) }
+    ensures dim { IfOk result (λ d. d.dim ≡ own.now.dim) }
+{
+    match edit {
+        BoxEdit::Toggle => Ok(cuboid),
+        BoxEdit::Add => {
+            let filled = part_in(alloc, own, nums)?;
+            let empty = exclusive_or(alloc, &cuboid, &filled)?;
+            Ok(empty)
+        }
+        BoxEdit::Cut => {
+            let filled = part_in(alloc, own, nums)?;
+            Ok(filled)
+        }
+    }
+}
+
 /// The change of a solid by a box.
-fn box_change(alloc: Global, edit: BoxEdit, own: &Solid, cuboid: Solid) -> Result<Change, NoMemory>
-    requires { cuboid.dim ≡ own.now.dim }
+fn box_change(
+    alloc: Global,
+    edit: BoxEdit,
+    own: &Tiles,
+    cuboid: Solid,
+    nums: &Nums,
+) -> Result<Change, NoMemory>
+    requires both { length nums.now ≡ 2 * own.now.dim }
+    requires fits { box_fits (low_of own.now.dim nums.now) (high_of own.now.dim nums.now) ≡ true }
+    requires cuboid { figure_of cuboid ≡ box_at own.now.dim nums.now }
+    requires same { cuboid.dim ≡ own.now.dim }
     ensures after { IfOk result (λ c. figure_of c.after ≡ figure_by edit (figure_of own.now) (figure_of cuboid)) }
     ensures change { IfOk result (λ c. IsChange (Some c) (figure_of own.now)) }
 {
-    match edit {
-        BoxEdit::Toggle => {
-            let after = exclusive_or(alloc, own, &cuboid)?;
-            Ok(Change {
-                delta: cuboid,
-                after,
-            })
-        }
-        BoxEdit::Add => {
-            let after = combine(alloc, Op2::Or, own, &cuboid)?;
-            changed_to(alloc, own, after)
-        }
-        BoxEdit::Cut => {
-            let after = combine(alloc, Op2::Sub, own, &cuboid)?;
-            changed_to(alloc, own, after)
-        }
-    }
+    let delta = box_delta(alloc, edit, own, cuboid, nums)?;
+    let after = changed(alloc, own, &delta)?;
+    Ok(Change { delta, after })
 }
 
 /// The change of an input by a box, or why there is none.
@@ -80,7 +126,7 @@ fn planned(
         Ok(cuboid) => cuboid,
         Err(refusal) => return Err(refusal),
     };
-    match box_change(alloc, edit, &node.solid, cuboid) {
+    match box_change(alloc, edit, &node.solid, cuboid, nums) {
         Ok(change) => Ok(change),
         Err(_) => Err(Refusal::NoMemory),
     }

@@ -15,8 +15,9 @@ use super::operations::{Operation, operation_of};
 use super::solids::is_none;
 use evm_boolean::Op2;
 use evm_delta::{DeltaError, Op1};
-use evm_rows::{NoMemory, Solid};
+use evm_rows::NoMemory;
 use evm_script::Name;
+use evm_tiles::Tiles;
 use indexmap::IndexMap;
 use std::alloc::Global;
 
@@ -26,7 +27,7 @@ fn both_moved(
     table: &IndexMap<Name, Node>,
     pending: &IndexMap<Name, Change>,
     op: Op2,
-    own: &Solid,
+    own: &Tiles,
     a: &Name,
     b: &Name,
 ) -> Result<Option<Change>, NoMemory>
@@ -59,7 +60,7 @@ fn shape_moved(
     table: &IndexMap<Name, Node>,
     pending: &IndexMap<Name, Change>,
     op: &Op1,
-    own: &Solid,
+    own: &Tiles,
     a: &Name,
 ) -> Result<Option<Change>, DeltaError>
     requires sized { (x : List ℕ) → NodeSized (node_at table.now.entries x) (dim_at table.now.entries) }

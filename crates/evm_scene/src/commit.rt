@@ -6,12 +6,12 @@ ghost use Rattle.evm_scene.specs.Changes.{change_at, put_all, IsCount};
 
 use super::node::{Change, Node};
 use super::solids::is_none;
-use evm_rows::Solid;
 use evm_script::Name;
+use evm_tiles::Tiles;
 use indexmap::IndexMap;
 
 /// Gives a name another solid.
-pub fn set_solid(table: &mut IndexMap<Name, Node>, name: &Name, solid: Solid)
+pub fn set_solid(table: &mut IndexMap<Name, Node>, name: &Name, solid: Tiles)
     ensures { table.new.entries ≡ put_solid table.old.entries name.now solid }
 {
     if let Some(node) = table.get_mut(name) {

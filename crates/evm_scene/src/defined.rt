@@ -17,13 +17,14 @@ use super::commit::{commit, take_own};
 use super::edit::{Changed, Refusal};
 use super::formulas::{dim_named, dim_stated, evaluate, lacks, solid_of};
 use super::inputs::around;
-use super::node::{Change, Node};
+use super::node::{Change, Node, changed_to};
 use super::removed::names;
 use super::reorder::{join, part, reads_reach};
-use super::solids::exclusive_or;
+use super::solids::tree_of;
 use evm_delta::DeltaError;
 use evm_rows::{NoMemory, Solid};
 use evm_script::{Formula, Name};
+use evm_tiles::Tiles;
 use indexmap::{IndexMap, IndexSet};
 use std::alloc::Global;
 
@@ -48,9 +49,12 @@ fn make(
     let Some(dim) = dim_stated(table, &formula) else {
         return Err(Refusal::Dim);
     };
-    let solid = match evaluate(alloc, table, &formula, dim) {
-        Ok(solid) => solid,
+    let whole = match evaluate(alloc, table, &formula, dim) {
+        Ok(whole) => whole,
         Err(refusal) => return Err(refusal),
+    };
+    let Ok(solid) = tree_of(alloc, &whole) else {
+        return Err(Refusal::NoMemory);
     };
     let node = Node {
         dim,
@@ -170,13 +174,12 @@ fn reformed(
     let [_, later @ ..] = parts.reach.as_slice() else {
         unreachable!()
     };
-    let delta = exclusive_or(alloc, solid_of(table, name), &after)?;
-    let change = Change { delta, after };
+    let change = changed_to(alloc, solid_of(table, name), after)?;
     seeded(alloc, table, parts.front.as_slice(), name, later, change)
 }
 
 /// Gives a name another formula and solid.
-fn set_made(table: &mut IndexMap<Name, Node>, name: &Name, formula: Formula, solid: Solid)
+fn set_made(table: &mut IndexMap<Name, Node>, name: &Name, formula: Formula, solid: Tiles)
     ensures { table.new.entries ≡ put_made table.old.entries name.now formula solid }
 {
     if let Some(node) = table.get_mut(name) {

@@ -21,6 +21,7 @@ use evm_boolean::Op2;
 use evm_delta::{DeltaError, Op1};
 use evm_rows::{NoMemory, Solid};
 use evm_script::{Formula, Name};
+use evm_tiles::Tiles;
 use indexmap::IndexMap;
 use std::alloc::Global;
 
@@ -121,7 +122,7 @@ fn in_range(table: &IndexMap<Name, Node>, formula: &Formula) -> bool
 }
 
 /// The solid that is kept for a name.
-pub fn solid_of<'a>(table: &'a IndexMap<Name, Node>, name: &Name) -> &'a Solid
+pub fn solid_of<'a>(table: &'a IndexMap<Name, Node>, name: &Name) -> &'a Tiles
     requires sized { (x : List ℕ) → NodeSized (node_at table.now.entries x) (dim_at table.now.entries) }
     requires stands { is_some (node_at table.now.entries name.now) ≡ true }
     ensures value { figure_of result.now ≡ kept table.now.entries name.now }
@@ -151,21 +152,24 @@ fn both(
     combine(alloc, op, solid_of(table, a), solid_of(table, b))
 }
 
-/// A shape of the solid of a name. It is `Range` exactly where the shape moves some cell out of the limits.
+/// A shape of the solid of a name. It is `Range` only where the shape moves some cell out of the limits, and a solid only where it
+/// moves none.
 fn one(alloc: Global, table: &IndexMap<Name, Node>, op: &Op1, a: &Name) -> Result<Solid, DeltaError>
     requires sized { (x : List ℕ) → NodeSized (node_at table.now.entries x) (dim_at table.now.entries) }
     requires stands { is_some (node_at table.now.entries a.now) ≡ true }
     requires fits { Fits op.now (dim_of (scene_of table.now.entries) a.now) }
     ensures value { IfOk result (λ s. figure_of s ≡ shape_of op.now (kept table.now.entries a.now)) }
     ensures dim { IfOk result (λ s. s.dim ≡ op1_dim op.now (dim_of (scene_of table.now.entries) a.now)) }
-    ensures range { IsErrOf result DeltaError.Range ↔ (shape_stays op.now (kept table.now.entries a.now) ≡ false) }
+    ensures stays { IfOk result (λ _. shape_stays op.now (kept table.now.entries a.now) ≡ true) }
+    ensures range { IsErrOf result DeltaError.Range → shape_stays op.now (kept table.now.entries a.now) ≡ false }
 {
     shape(alloc, op, solid_of(table, a))
 }
 
 /// The solid of a formula whose operands stand and which fits them, in its dimension, which is given.
 ///
-/// It is `Range` exactly where a number that it states is out of its limits, or it moves some cell out of them.
+/// It is `Range` only where a number that it states is out of its limits, or it moves some cell out of them, and a solid only where
+/// neither holds. Takes memory for the rows of its operands, and for the answer.
 pub fn evaluate(
     alloc: Global,
     table: &IndexMap<Name, Node>,

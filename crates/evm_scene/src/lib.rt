@@ -1,9 +1,10 @@
 //! A scene: named inputs and formulas, each with its solid, kept current under edits.
 //!
 //! A scene holds names in the order of their making. A name stands for an input, whose solid edits change, or for a formula
-//! over other names. Each name's solid is kept, and always is that of its formula evaluated anew from the inputs. An edit
-//! makes the exact change of its name, carries it through the names that come later in an order in which operands stand
-//! first, and puts all new solids in place at the end, when nothing can fail any more.
+//! over other names. Each name's solid is kept as a tree of tiles, and always is that of its formula evaluated anew from the inputs.
+//! An edit makes the exact change of its name, carries it through the names that come later in an order in which operands stand
+//! first, and puts all new trees in place at the end, when nothing can fail any more. All changes are made from the trees before the
+//! edit, near the changes of operands; a tree after shares with the one before what its change does not meet.
 #![tactic(auto)]
 
 mod added;

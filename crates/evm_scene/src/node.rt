@@ -10,22 +10,23 @@ ghost use Rattle.evm_scene.specs.Operations.{shape_of, shape_stays};
 ghost use Rattle.evm_scene.specs.Changes.{after_of, IsChange, Moves};
 
 use super::shapes::shape_change;
-use super::solids::{change, exclusive_or, is_none, none, stays};
+use super::solids::{change, changed, exclusive_or, is_none, none, stays, tree_of};
 use evm_boolean::Op2;
 use evm_delta::{DeltaError, Op1};
 use evm_rows::{NoMemory, Solid};
 use evm_script::Formula;
+use evm_tiles::Tiles;
 use std::alloc::Global;
 
-/// What a name stands for: its dimension, its formula if it is no input, and its solid.
+/// What a name stands for: its dimension, its formula if it is no input, and the tree of its solid.
 #[derive(Drop)]
 pub struct Node {
     /// The dimension of the solid, 2 to 6.
     pub dim: usize,
     /// The formula that makes the solid, or none for an input.
     pub formula: Option<Formula>,
-    /// The solid.
-    pub solid: Solid,
+    /// The solid, as a tree of tiles: an edit changes it near its box alone.
+    pub solid: Tiles,
 }
 
 /// A change of a solid that is made and not in place yet.
@@ -33,22 +34,24 @@ pub struct Node {
 pub struct Change {
     /// The exclusive or of the solid before and after.
     pub delta: Solid,
-    /// The solid after.
-    pub after: Solid,
+    /// The solid after. What the change does not meet it shares with the solid before.
+    pub after: Tiles,
 }
 
-/// The change of a solid to another.
-pub fn changed_to(alloc: Global, own: &Solid, after: Solid) -> Result<Change, NoMemory>
+/// The change of a solid to another. Takes memory for the rows of both, and for the change.
+pub fn changed_to(alloc: Global, own: &Tiles, after: Solid) -> Result<Change, NoMemory>
     requires { after.dim ≡ own.now.dim }
     ensures after { IfOk result (λ c. c.after ≡ after) }
     ensures change { IfOk result (λ c. IsChange (Some c) (figure_of own.now)) }
 {
-    let delta = exclusive_or(alloc, own, &after)?;
+    let before = own.to_rows(alloc)?;
+    let delta = exclusive_or(alloc, &before, &after)?;
+    let after = tree_of(alloc, &after)?;
     Ok(Change { delta, after })
 }
 
 /// The change of an operand, or the one without cells.
-fn delta_or<'a>(change: Option<&'a Change>, own: &Solid, still: &'a Solid) -> &'a Solid
+fn delta_or<'a>(change: Option<&'a Change>, own: &Tiles, still: &'a Solid) -> &'a Solid
     requires change { IsChange (option_copied change) (figure_of own.now) }
     requires still { figure_of still.now ≡ nothing own.now.dim }
     requires dim { still.now.dim ≡ own.now.dim }
@@ -68,10 +71,10 @@ fn delta_or<'a>(change: Option<&'a Change>, own: &Solid, still: &'a Solid) -> &'
 pub fn both_changed(
     alloc: Global,
     op: Op2,
-    own: &Solid,
-    a: &Solid,
+    own: &Tiles,
+    a: &Tiles,
     da: Option<&Change>,
-    b: &Solid,
+    b: &Tiles,
     db: Option<&Change>,
 ) -> Result<Option<Change>, NoMemory>
     requires value { figure_of own.now ≡ combine_of op (figure_of a.now) (figure_of b.now) }
@@ -91,7 +94,7 @@ pub fn both_changed(
     let first = delta_or(da, a, &still);
     let second = delta_or(db, b, &still);
     let delta = change(alloc, op, a, first, b, second)?;
-    let after = exclusive_or(alloc, own, &delta)?;
+    let after = changed(alloc, own, &delta)?;
     if is_none(&delta) {
         return Ok(None);
     }
@@ -105,8 +108,8 @@ pub fn both_changed(
 pub fn one_changed(
     alloc: Global,
     op: &Op1,
-    own: &Solid,
-    a: &Solid,
+    own: &Tiles,
+    a: &Tiles,
     da: Option<&Change>,
 ) -> Result<Option<Change>, DeltaError>
     requires value { figure_of own.now ≡ shape_of op.now (figure_of a.now) }
@@ -126,6 +129,6 @@ pub fn one_changed(
     if is_none(&delta) {
         return Ok(None);
     }
-    let after = exclusive_or(alloc, own, &delta)?;
+    let after = changed(alloc, own, &delta)?;
     Ok(Some(Change { delta, after }))
 }

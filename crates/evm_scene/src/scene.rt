@@ -11,11 +11,12 @@ use super::edit::{Entry, Refusal};
 use super::node::Node;
 use evm_rows::{NoMemory, Solid};
 use evm_script::{Formula, Name};
+use evm_tiles::Tiles;
 use indexmap::IndexMap;
 use std::alloc::Global;
 use std::marker::Model;
 
-/// Names in the order of their making, each an input or a formula over other names, and the solid of each.
+/// Names in the order of their making, each an input or a formula over other names, and the solid of each, kept as a tree of tiles.
 #[derive(Drop)]
 pub struct Scene {
     /// What each name stands for, in the order of their making.
@@ -54,20 +55,20 @@ impl Scene {
         let _count = self.table.len();
     }
 
-    /// A copy of the solid of a name. The refusal is `Name` exactly where the name does not stand, and else `NoMemory`, where
-    /// there is none for the copy.
+    /// The rows of the solid of a name. The refusal is `Name` exactly where the name does not stand, and else `NoMemory`, where
+    /// there is none for the rows.
     pub fn solid(&self, alloc: Global, name: &Name) -> Result<Solid, Refusal>
         ensures ok { IfOk result (λ s. (stands self.now name.now ≡ true) × (figure_of s ≡ value self.now name.now)) }
         ensures err { IfErr result (λ e. Refuses e (stands self.now name.now ≡ false)) }
     {
         match self.kept(name) {
-            Some(solid) => Ok(solid.copy(alloc)?),
+            Some(solid) => Ok(solid.to_rows(alloc)?),
             None => Err(Refusal::Name),
         }
     }
 
-    /// The solid of a name, borrowed: none exactly where the name does not stand.
-    pub fn kept(&self, name: &Name) -> Option<&Solid>
+    /// The solid of a name as a tree of tiles, borrowed: none exactly where the name does not stand. Takes no memory.
+    pub fn kept(&self, name: &Name) -> Option<&Tiles>
         ensures value { MatchOption result (stands self.now name.now ≡ false) (λ s. (stands self.now name.now ≡ true) × (figure_of s.now ≡ value self.now name.now)) }
         ensures dim { IfSome result (λ s. s.now.dim ≡ dim_of self.now name.now) }
         ensures solid { IfSome result (λ s. IsSolid s.now) }

@@ -8,6 +8,7 @@ ghost use Rattle.evm_scene.specs.Combined.{combine_of};
 
 use evm_boolean::Op2;
 use evm_rows::{NoMemory, Solid};
+use evm_tiles::Tiles;
 use std::alloc::Global;
 
 /// The solid without cells.
@@ -29,14 +30,22 @@ pub fn is_none(solid: &Solid) -> bool
 }
 
 /// A law: the exclusive or with no cells changes nothing, and a solid has the cells that it has.
-pub fn stays(solid: &Solid)
+pub fn stays(solid: &Tiles)
     ensures empty { xor_of (figure_of solid.now) (nothing solid.now.dim) ≡ figure_of solid.now }
     ensures same { same_figure (figure_of solid.now) (figure_of solid.now) ≡ true }
 {
-    solid.facts();
+    let _read = solid.dim();
 }
 
-/// The cells of just one of two solids: also the change between the two, and the solid after a change.
+/// The tree of a solid. Takes memory for its rows.
+pub fn tree_of(alloc: Global, solid: &Solid) -> Result<Tiles, NoMemory>
+    ensures { IfOk result (λ t. t ≡ solid.now) }
+{
+    let made = Tiles::from_rows(alloc, solid.rows())?;
+    Ok(made)
+}
+
+/// The cells of just one of two solids: also the change between the two.
 pub fn exclusive_or(alloc: Global, a: &Solid, b: &Solid) -> Result<Solid, NoMemory>
     requires { b.now.dim ≡ a.now.dim }
     ensures value { IfOk result (λ s. figure_of s ≡ xor_of (figure_of a.now) (figure_of b.now)) }
@@ -44,32 +53,44 @@ pub fn exclusive_or(alloc: Global, a: &Solid, b: &Solid) -> Result<Solid, NoMemo
 
     // The change from one solid to another takes the one to the other.
     ensures back { IfOk result (λ s. xor_of (figure_of a.now) (figure_of s) ≡ figure_of b.now) }
-
-    // A change without cells changes nothing, and each other one does.
-    ensures same { IfOk result (λ s. cells b.now.dim b.now.rows ≡ [] → figure_of s ≡ figure_of a.now) }
-    ensures moves { IfOk result (λ s. ¬ (cells b.now.dim b.now.rows ≡ []) → same_figure (figure_of a.now) (figure_of s) ≡ false) }
 {
     let made = evm_rows::xor(alloc, a.rows(), b.rows())?;
     Ok(made)
 }
 
-/// A Boolean of two solids.
-pub fn combine(alloc: Global, op: Op2, a: &Solid, b: &Solid) -> Result<Solid, NoMemory>
+/// The solid after a change, the exclusive or of the two. It shares with the solid before what the change does not meet.
+pub fn changed(alloc: Global, own: &Tiles, delta: &Solid) -> Result<Tiles, NoMemory>
+    requires { delta.now.dim ≡ own.now.dim }
+    ensures value { IfOk result (λ t. figure_of t ≡ xor_of (figure_of own.now) (figure_of delta.now)) }
+    ensures dim { IfOk result (λ t. t.dim ≡ own.now.dim) }
+
+    // A change without cells changes nothing, and each other one does.
+    ensures same { IfOk result (λ t. cells delta.now.dim delta.now.rows ≡ [] → figure_of t ≡ figure_of own.now) }
+    ensures moves { IfOk result (λ t. ¬ (cells delta.now.dim delta.now.rows ≡ []) → same_figure (figure_of own.now) (figure_of t) ≡ false) }
+{
+    let made = own.xor(alloc, delta.rows())?;
+    Ok(made)
+}
+
+/// A Boolean of two solids, made anew. Takes memory for the rows of both, and for the answer.
+pub fn combine(alloc: Global, op: Op2, a: &Tiles, b: &Tiles) -> Result<Solid, NoMemory>
     requires { b.now.dim ≡ a.now.dim }
     ensures value { IfOk result (λ s. figure_of s ≡ combine_of op (figure_of a.now) (figure_of b.now)) }
     ensures dim { IfOk result (λ s. s.dim ≡ a.now.dim) }
 {
-    let made = evm_boolean::combine(alloc, op, a.rows(), b.rows())?;
+    let left = a.to_rows(alloc)?;
+    let right = b.to_rows(alloc)?;
+    let made = evm_boolean::combine(alloc, op, left.rows(), right.rows())?;
     Ok(made)
 }
 
-/// The change of a Boolean whose operands change by `da` and `db`.
+/// The change of a Boolean whose operands change by `da` and `db`, looked for near the two.
 pub fn change(
     alloc: Global,
     op: Op2,
-    a: &Solid,
+    a: &Tiles,
     da: &Solid,
-    b: &Solid,
+    b: &Tiles,
     db: &Solid,
 ) -> Result<Solid, NoMemory>
     requires other { b.now.dim ≡ a.now.dim }
@@ -78,6 +99,6 @@ pub fn change(
     ensures carries { IfOk result (λ d. xor_of (combine_of op (figure_of a.now) (figure_of b.now)) (figure_of d) ≡ combine_of op (xor_of (figure_of a.now) (figure_of da.now)) (xor_of (figure_of b.now) (figure_of db.now))) }
     ensures dim { IfOk result (λ d. d.dim ≡ a.now.dim) }
 {
-    let made = evm_delta::delta2(alloc, op, a.rows(), da.rows(), b.rows(), db.rows())?;
+    let made = evm_delta::delta2(alloc, op, a, da.rows(), b, db.rows())?;
     Ok(made)
 }

@@ -43,7 +43,7 @@ fn formulas_follow_inputs(rt: HostRuntime) -> Result<(), Fail> {
         nums: corners(0, 2)?,
     };
     assert_eq!(rt; scene.apply(rt.alloc(), square), Ok(Changed { names: 2 }));
-    let mirrored = scene.kept(&name_m).ok_or("m")?;
+    let mirrored = scene.solid(rt.alloc(), &name_m).map_err(|_| "m")?;
     assert_eq!(rt; mirrored.flat(), [-2, 0, -2, 2, 0, 0, 0, 2].as_slice());
     assert_eq!(rt; scene.count(), 2);
     assert_eq!(rt; scene.name_at(1).same(&name_m), true);
@@ -69,7 +69,7 @@ fn formulas_follow_inputs(rt: HostRuntime) -> Result<(), Fail> {
         solid: Solid::of_box(rt.alloc(), &[0, 0], &[1, 1]).map_err(|_| "box")?,
     };
     assert_eq!(rt; scene.apply(rt.alloc(), other), Ok(Changed { names: 2 }));
-    let mirrored = scene.kept(&name_m).ok_or("m")?;
+    let mirrored = scene.solid(rt.alloc(), &name_m).map_err(|_| "m")?;
     assert_eq!(rt; mirrored.flat(), [-1, 0, -1, 1, 0, 0, 0, 1].as_slice());
     Ok(())
 }

@@ -2,6 +2,7 @@ pub mod Rows
 pub mod Turns
 pub mod Answering
 pub mod Slicing
+pub mod CellWindows
 pub mod Lines
 pub mod Listing
 pub mod Shelved

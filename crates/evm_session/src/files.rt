@@ -72,7 +72,7 @@ fn write_form(alloc: Global, form: &SaveForm, solid: &Solid) -> Result<Vec<u8>, 
 
 /// Places the solid of a name as a file, and tells how many bytes it has. The room for the reply comes before the file.
 ///
-/// It is `Name` where the name does not stand, and `Shelf` where the shelf failed. Takes memory for the bytes.
+/// It is `Name` where the name does not stand, and `Shelf` where the shelf failed. Takes memory for the rows and the bytes.
 pub fn save<S: Shelf>(
     scene: &Scene,
     alloc: Global,
@@ -84,10 +84,11 @@ pub fn save<S: Shelf>(
 ) -> Result<(), Refusal>
     ensures { CarriesOver result scene.now scene.now out.old.items out.new.items (shelf_view (S.files shelf.old) (S.faults shelf.old) (S.misses shelf.old)) (shelf_view (S.files shelf.new) (S.faults shelf.new) (S.misses shelf.new)) (request_of scene.now (commands.Save name.now form.now file.now)) }
 {
-    let Some(solid) = scene.kept(name) else {
+    let Some(tree) = scene.kept(name) else {
         return Err(Refusal::Name);
     };
-    let bytes = write_form(alloc, form, solid)?;
+    let solid = tree.to_rows(alloc)?;
+    let bytes = write_form(alloc, form, &solid)?;
     reserve_number(out)?;
     shelf.place(alloc, file.bytes(), bytes.as_slice())?;
     put_number(out, bytes.len());

@@ -7,23 +7,25 @@ ghost use Rattle.evm_session.specs.Carried.{Carries};
 ghost use Rattle.evm_session.specs.Questions.{filled_text, placed_text};
 ghost use Rattle.evm_script.specs.declared.command.Command.TheVariants as commands;
 
+use super::cells::is_filled;
 use super::refusals::Refusal;
 use super::replies::{say, say_number, say_solid};
 use evm_measure as measure;
-use evm_member::{Place, fills, place};
+use evm_member::{Place, place};
 use evm_rows::limit;
 use evm_scene::Scene;
 use evm_script::{Name, Nums};
 use std::alloc::Global;
 
 /// The extreme vertices.
-pub fn show(scene: &Scene, name: &Name, out: &mut Vec<u8>) -> Result<(), Refusal>
+pub fn show(scene: &Scene, alloc: Global, name: &Name, out: &mut Vec<u8>) -> Result<(), Refusal>
     ensures { Carries result scene.now scene.now out.old.items out.new.items (turn_of no_files scene.now (commands.Show name.now)) }
 {
-    let Some(solid) = scene.kept(name) else {
+    let Some(tree) = scene.kept(name) else {
         return Err(Refusal::Name);
     };
-    say_solid(out, solid)?;
+    let solid = tree.to_rows(alloc)?;
+    say_solid(out, &solid)?;
     Ok(())
 }
 
@@ -31,9 +33,10 @@ pub fn show(scene: &Scene, name: &Name, out: &mut Vec<u8>) -> Result<(), Refusal
 pub fn content(scene: &Scene, alloc: Global, name: &Name, out: &mut Vec<u8>) -> Result<(), Refusal>
     ensures { Carries result scene.now scene.now out.old.items out.new.items (turn_of no_files scene.now (commands.Content name.now)) }
 {
-    let Some(solid) = scene.kept(name) else {
+    let Some(tree) = scene.kept(name) else {
         return Err(Refusal::Name);
     };
+    let solid = tree.to_rows(alloc)?;
     let cells = measure::content(alloc, solid.rows())?;
     say_number(out, cells)?;
     Ok(())
@@ -43,23 +46,30 @@ pub fn content(scene: &Scene, alloc: Global, name: &Name, out: &mut Vec<u8>) -> 
 pub fn boundary(scene: &Scene, alloc: Global, name: &Name, out: &mut Vec<u8>) -> Result<(), Refusal>
     ensures { Carries result scene.now scene.now out.old.items out.new.items (turn_of no_files scene.now (commands.Boundary name.now)) }
 {
-    let Some(solid) = scene.kept(name) else {
+    let Some(tree) = scene.kept(name) else {
         return Err(Refusal::Name);
     };
+    let solid = tree.to_rows(alloc)?;
     let faces = measure::boundary(alloc, solid.rows())?;
     say_number(out, faces)?;
     Ok(())
 }
 
 /// Whether a cell is filled.
-pub fn at(scene: &Scene, name: &Name, nums: &Nums, out: &mut Vec<u8>) -> Result<(), Refusal>
+pub fn at(
+    scene: &Scene,
+    alloc: Global,
+    name: &Name,
+    nums: &Nums,
+    out: &mut Vec<u8>,
+) -> Result<(), Refusal>
     ensures { Carries result scene.now scene.now out.old.items out.new.items (turn_of no_files scene.now (commands.At name.now nums.now)) }
 {
-    let Some(solid) = scene.kept(name) else {
+    let Some(tree) = scene.kept(name) else {
         return Err(Refusal::Name);
     };
-    solid.facts();
-    let dim = solid.dim();
+    tree.facts();
+    let dim = tree.dim();
     if nums.len() != dim {
         return Err(Refusal::Dim);
     }
@@ -67,7 +77,7 @@ pub fn at(scene: &Scene, name: &Name, nums: &Nums, out: &mut Vec<u8>) -> Result<
     let Some(cell) = nums.between(-limit, limit - 1) else {
         return Err(Refusal::Range);
     };
-    let filled = fills(solid.rows(), cell.values());
+    let filled = is_filled(alloc, tree, cell.values())?;
     say(out, filled_text(filled))?;
     Ok(())
 }
@@ -85,14 +95,20 @@ fn filled_text(filled: bool) -> &'static [u8]
 }
 
 /// Where a point stands.
-pub fn point(scene: &Scene, name: &Name, nums: &Nums, out: &mut Vec<u8>) -> Result<(), Refusal>
+pub fn point(
+    scene: &Scene,
+    alloc: Global,
+    name: &Name,
+    nums: &Nums,
+    out: &mut Vec<u8>,
+) -> Result<(), Refusal>
     ensures { Carries result scene.now scene.now out.old.items out.new.items (turn_of no_files scene.now (commands.Point name.now nums.now)) }
 {
-    let Some(solid) = scene.kept(name) else {
+    let Some(tree) = scene.kept(name) else {
         return Err(Refusal::Name);
     };
-    solid.facts();
-    let dim = solid.dim();
+    tree.facts();
+    let dim = tree.dim();
     if nums.len() != dim {
         return Err(Refusal::Dim);
     }
@@ -100,6 +116,7 @@ pub fn point(scene: &Scene, name: &Name, nums: &Nums, out: &mut Vec<u8>) -> Resu
     let Some(point) = nums.between(-limit, limit) else {
         return Err(Refusal::Range);
     };
+    let solid = tree.to_rows(alloc)?;
     let place = place(solid.rows(), point.values());
     say(out, placed_text(place))?;
     Ok(())

@@ -1,7 +1,9 @@
 //! Sections and projections of the solid of a name.
 
-ghost use Rattle.std.specs.Prelude.{◌≡◌, ◌<◌, ◌≤◌, nat_abs, true, false, MatchOption};
+ghost use Rattle.std.specs.Prelude.{◌≡◌, ◌-◌, ◌<◌, ◌≤◌, nat_abs, true, false, IfOk, MatchOption};
 ghost use Rattle.evm_cells.specs.Limits.{is_cell_coord};
+ghost use Rattle.evm_cells.specs.Sections.{slice};
+ghost use Rattle.evm_rows.specs.Rows.{cells_of};
 ghost use Rattle.evm_model.specs.Scene.{is_axis};
 ghost use Rattle.evm_model.specs.Files.{no_files};
 ghost use Rattle.evm_model.specs.Steps.{turn_of};
@@ -10,10 +12,11 @@ ghost use Rattle.evm_script.specs.declared.command.Command.TheVariants as comman
 
 use super::refusals::Refusal;
 use super::replies::say_solid;
-use evm_rows::limit;
+use evm_rows::{NoMemory, Solid, limit};
 use evm_scene::Scene;
 use evm_script::{Name, Num};
 use evm_shapes as shapes;
+use evm_tiles::Tiles;
 use std::alloc::Global;
 
 /// The axis that a number states, counted from 1, or `None` exactly where it is none of this dimension.
@@ -39,6 +42,25 @@ fn height_of(at: &Num, dim: usize) -> Option<i32>
     at.between(-limit, limit - 1)
 }
 
+/// The section of a solid at a height on an axis. That of the first axis is looked for near the height alone.
+fn section_of(alloc: Global, tree: &Tiles, along: usize, at: i32) -> Result<Solid, NoMemory>
+    requires deep { 2 ≤ tree.now.dim }
+    requires low { 0 < along }
+    requires high { along ≤ tree.now.dim }
+    requires height { is_cell_coord tree.now.dim at ≡ true }
+    ensures dim { IfOk result (λ s. s.dim ≡ tree.now.dim - 1) }
+    ensures cells { IfOk result (λ s. cells_of s ≡ slice (tree.now.dim - 1) (along - 1) at (cells_of tree.now)) }
+{
+    if along == 1 {
+        let section = tree.section(alloc, at)?;
+        Ok(section)
+    } else {
+        let whole = tree.to_rows(alloc)?;
+        let section = shapes::slice(alloc, whole.rows(), along, at)?;
+        Ok(section)
+    }
+}
+
 /// The extreme vertices of the section at a height on an axis.
 pub fn section(
     scene: &Scene,
@@ -51,18 +73,18 @@ pub fn section(
     ensures { Carries result scene.now scene.now out.old.items out.new.items (turn_of no_files scene.now (commands.Section name.now axis.now at.now)) }
 {
     scene.facts();
-    let Some(solid) = scene.kept(name) else {
+    let Some(tree) = scene.kept(name) else {
         return Err(Refusal::Name);
     };
-    solid.facts();
-    let dim = solid.dim();
+    tree.facts();
+    let dim = tree.dim();
     let Some(along) = axis_of(axis, dim) else {
         return Err(Refusal::Dim);
     };
     let Some(at) = height_of(at, dim) else {
         return Err(Refusal::Range);
     };
-    let section = shapes::slice(alloc, solid.rows(), along, at)?;
+    let section = section_of(alloc, tree, along, at)?;
     say_solid(out, &section)?;
     Ok(())
 }
@@ -78,14 +100,15 @@ pub fn project(
     ensures { Carries result scene.now scene.now out.old.items out.new.items (turn_of no_files scene.now (commands.Project name.now axis.now)) }
 {
     scene.facts();
-    let Some(solid) = scene.kept(name) else {
+    let Some(tree) = scene.kept(name) else {
         return Err(Refusal::Name);
     };
-    solid.facts();
-    let dim = solid.dim();
+    tree.facts();
+    let dim = tree.dim();
     let Some(axis) = axis_of(axis, dim) else {
         return Err(Refusal::Dim);
     };
+    let solid = tree.to_rows(alloc)?;
     let shadow = shapes::project(alloc, solid.rows(), axis)?;
     say_solid(out, &shadow)?;
     Ok(())

@@ -4,7 +4,7 @@ ghost use Rattle.std.specs.Prelude.{◌≡◌, ◌≤◌, ◌-◌, true, IfOk};
 ghost use Rattle.evm_cells.specs.Limits.{is_cell_coord};
 ghost use Rattle.evm_cells.specs.Boxes.{is_box};
 ghost use Rattle.evm_cells.specs.Vertices.{evm};
-ghost use Rattle.evm_rows.specs.Rows.{cells_of};
+ghost use Rattle.evm_rows.specs.Rows.{cells_of, IsSolid};
 ghost use Rattle.evm_rows.specs.View.{vertices_of};
 ghost use Rattle.evm_tiles.specs.Shown.{window_cells, section_cells, just_one, just_one_rows};
 
@@ -46,6 +46,15 @@ impl Tiles {
         let dim = solid.dim();
         let root = planted(alloc, solid)?;
         Ok(Tiles { dim, root })
+    }
+
+    /// What the type keeps: it stands for a vertex list of dimension 1 to 6, the extreme vertices of its cells. It does nothing,
+    /// and is called where a proof needs these facts.
+    pub fn facts(&self)
+        ensures solid { IsSolid self.now }
+        ensures vertices { self.now.rows ≡ evm self.now.dim (cells_of self.now) }
+    {
+        let _read = self.dim;
     }
 
     /// The dimension, 1 to 6.

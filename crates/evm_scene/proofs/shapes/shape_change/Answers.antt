@@ -1,4 +1,4 @@
-use Rattle.std.proofs.Common.{◌≡◌, ◌∙◌}
+use Rattle.std.proofs.Common.{◌≡◌, ◌∙◌, refl}
 use Rattle.evm_cells.specs.Booleans.{xor_cells}
 use Rattle.evm_rows.specs.Rows.{Vertices, cells_of}
 use Rattle.evm_rows.specs.View.{vertices_of}
@@ -11,19 +11,19 @@ use Rattle.evm_scene.proofs.ShapeValues.{stays_made, stays_after, shape_carries,
 use Rattle.evm_scene.proofs.shapes.shape_change.Goals as goal
 
 pub delta1-requires-clause-stands : goal.delta1-requires-clause-stands
-delta1-requires-clause-stands c = stays_made c.args.op.now c.args.a.now (vertices_of c.rows.result) c.rows.ensures ∙ c.requires.stays
+delta1-requires-clause-stands c = stays_made c.args.op.now c.args.a.now c.args.a.now refl ∙ c.requires.stays
 
 pub returns-clause-carries : goal.returns-clause-carries
 returns-clause-carries c =
-    let v : Vertices = vertices_of c.rows.result in
-    let w : Vertices = vertices_of c.rows-2.result in
+    let v : Vertices = c.args.a.now in
+    let w : Vertices = vertices_of c.rows.result in
     from_both c.delta1.result (λ d. d.dim ≡ op1_dim c.args.op.now v.dim) (λ d. xor_cells d.dim (shape_before c.args.op.now v) (cells_of d) ≡ shape_after c.args.op.now v w)
     (λ d. xor_of (shape_of c.args.op.now (figure_of c.args.a.now)) (figure_of d) ≡ shape_of c.args.op.now (xor_of (figure_of c.args.a.now) (figure_of c.args.da.now)))
-    (λ d n e. shape_carries c.args.op.now c.args.a.now v c.rows.ensures c.args.da.now w c.rows-2.ensures c.requires.same d n e) c.delta1.ensures.dim c.delta1.ensures.carries
+    (λ d n e. shape_carries c.args.op.now c.args.a.now v refl c.args.da.now w c.rows.ensures c.requires.same d n e) c.delta1.ensures.dim c.delta1.ensures.carries
 
 pub returns-clause-range : goal.returns-clause-range
 returns-clause-range c =
-    let v : Vertices = vertices_of c.rows.result in
-    let w : Vertices = vertices_of c.rows-2.result in
+    let v : Vertices = c.args.a.now in
+    let w : Vertices = vertices_of c.rows.result in
     range_by _ (in_range c.args.op.now v.dim (changed_cells v w)) (shape_stays c.args.op.now (xor_of (figure_of c.args.a.now) (figure_of c.args.da.now)))
-    (stays_after c.args.op.now c.args.a.now v c.rows.ensures c.args.da.now w c.rows-2.ensures c.requires.same) c.delta1.ensures.range
+    (stays_after c.args.op.now c.args.a.now v refl c.args.da.now w c.rows.ensures c.requires.same) c.delta1.ensures.range

@@ -1,8 +1,8 @@
 use Rattle.std.proofs.Common.{ap, ◌∙◌}
 use Rattle.evm_rows.specs.View.{vertices_of}
-use Rattle.evm_model.specs.Figures.{xor_of, same_figure}
+use Rattle.evm_model.specs.Figures.{xor_of}
 use Rattle.evm_scene.specs.Tables.{figure_of}
-use Rattle.evm_scene.proofs.Figures.{figure_set, xor_made, xor_back, xor_same, xor_moves}
+use Rattle.evm_scene.proofs.Figures.{figure_set, xor_made, xor_back}
 use Rattle.evm_scene.proofs.solids.exclusive_or.Goals as goal
 
 pub returns-clause-value : goal.returns-clause-value
@@ -14,11 +14,3 @@ pub returns-clause-back : goal.returns-clause-back
 returns-clause-back c =
     ap (xor_of (figure_of c.args.a.now)) (returns-clause-value c)
     ∙ xor_back (figure_of c.args.a.now) (figure_of c.args.b.now) c.requires (figure_set c.args.a.now) (figure_set c.args.b.now)
-
-pub returns-clause-same : goal.returns-clause-same
-returns-clause-same c none = returns-clause-value c ∙ xor_same (figure_of c.args.a.now) (figure_of c.args.b.now) none (figure_set c.args.a.now)
-
-pub returns-clause-moves : goal.returns-clause-moves
-returns-clause-moves c some =
-    ap (same_figure (figure_of c.args.a.now)) (returns-clause-value c)
-    ∙ xor_moves (figure_of c.args.a.now) (figure_of c.args.b.now) c.requires (figure_set c.args.a.now) (figure_set c.args.b.now) some

@@ -4,7 +4,6 @@ use Rattle.std.proofs.lemmas.Bool.Decides.{Decides-eqb}
 use Rattle.evm_cells.specs.Limits.{limit, is_cell_coord}
 use Rattle.evm_cells.specs.Places.{has}
 use Rattle.evm_cells.specs.Vertices.{cells}
-use Rattle.evm_rows.specs.Rows.{Vertices}
 use Rattle.evm_model.specs.Figures.{Figure, fills}
 use Rattle.evm_model.specs.Scene.{value}
 use Rattle.evm_model.specs.Replies.{Filled}
@@ -15,7 +14,7 @@ use Rattle.evm_session.proofs.questions.at.Goals as goal
 
 pub returns-in_default-between : goal.returns-in_default-between
 returns-in_default-between c =
-    let v = c.in-Some.solid.now in
+    let v = c.in-Some.tree.now in
     let nums = c.args.nums.now in
     let high : to_z w32 (of_z w32 (to_z w32 (of_z w32 c.limit-limit.result) -ℤ pos 1)) ≡ pos (limit c.dim-dim.result) -ℤ pos 1 = search rules in
     let low : to_z w32 (of_z w32 (pos 0 -ℤ to_z w32 (of_z w32 c.limit-limit.result))) ≡ neg_ℤ (pos (limit c.dim-dim.result)) = search rules in
@@ -25,19 +24,19 @@ returns-in_default-between c =
     let many : (length nums == v.dim) ≡ true = (Decides-eqb (length nums) v.dim).1 (sym c.len.ensures ∙ c.if-len-dim.false ∙ c.dim-dim.ensures) in
     (place_by c.args.scene.now c.args.name.now nums is_cell_coord v.dim _ true false c.in-Some.ensures.value.0 c.in-Some.ensures.dim many out, refl, refl)
 
-pub fills-filled-requires : goal.fills-filled-requires
-fills-filled-requires c =
+pub is_filled-requires : goal.is_filled-requires
+is_filled-requires c =
     let high : to_z w32 (of_z w32 (to_z w32 (of_z w32 c.limit-limit.result) -ℤ pos 1)) ≡ pos (limit c.dim-dim.result) -ℤ pos 1 = search rules in
     let low : to_z w32 (of_z w32 (pos 0 -ℤ to_z w32 (of_z w32 c.limit-limit.result))) ≡ neg_ℤ (pos (limit c.dim-dim.result)) = search rules in
     let place = c.values.ensures ∙ c.in-Some-between.ensures.1 in
-    is_a_cell c.dim-dim.result _ c.args.nums.now _ place (sym c.len.ensures ∙ c.if-len-dim.false) (ap (λ (a : Vertices). a.dim) c.rows.ensures ∙ sym c.dim-dim.ensures)
+    is_a_cell c.dim-dim.result _ c.args.nums.now _ place (sym c.len.ensures ∙ c.if-len-dim.false) (sym c.dim-dim.ensures)
     (sym (between_cells c.dim-dim.result c.args.nums.now _ _ low high) ∙ c.in-Some-between.ensures.0)
 
 pub returns : goal.returns
 returns c =
     let scene = c.args.scene.now in
     let name = c.args.name.now in
-    let v = c.in-Some.solid.now in
+    let v = c.in-Some.tree.now in
     let nums = c.args.nums.now in
     let high : to_z w32 (of_z w32 (to_z w32 (of_z w32 c.limit-limit.result) -ℤ pos 1)) ≡ pos (limit c.dim-dim.result) -ℤ pos 1 = search rules in
     let low : to_z w32 (of_z w32 (pos 0 -ℤ to_z w32 (of_z w32 c.limit-limit.result))) ≡ neg_ℤ (pos (limit c.dim-dim.result)) = search rules in
@@ -46,8 +45,8 @@ returns c =
     (sym (between_cells c.dim-dim.result nums _ _ low high) ∙ c.in-Some-between.ensures.0) in
     let place = c.values.ensures ∙ c.in-Some-between.ensures.1 in
     let many : (length nums == v.dim) ≡ true = (Decides-eqb (length nums) v.dim).1 (sym c.len.ensures ∙ c.if-len-dim.false ∙ c.dim-dim.ensures) in
-    let filled : c.fills-filled.result ≡ fills (value scene name) nums =
-    filled_found v nums c.fills-filled.result (c.fills-filled.ensures ∙ ap (λ (a : Vertices). has (cells a.dim a.rows) c.values.result.now) c.rows.ensures ∙ ap (has (cells v.dim v.rows)) place)
+    let filled : c.in_ok-filled.filled ≡ fills (value scene name) nums =
+    filled_found v nums c.in_ok-filled.filled (c.in_ok-filled.ensures ∙ ap (has (cells v.dim v.rows)) place)
     ∙ ap (λ (a : Figure). fills a nums) c.in-Some.ensures.value.1 in
     let text = c.in_ok-say.ensures ∙ ap (λ (t : List ℕ). c.args.out.now.items ++ t) (c.filled_text.ensures ∙ ap filled_text filled) in
     carried scene scene c.args.out.now.items c.say.new.out.items (Filled (fills (value scene name) nums)) _

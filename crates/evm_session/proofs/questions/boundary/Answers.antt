@@ -15,10 +15,10 @@ pub returns : goal.returns
 returns c =
     let scene = c.args.scene.now in
     let name = c.args.name.now in
-    let v = c.in-Some.solid.now in
+    let v = c.in-Some.tree.now in
     let n = c.in_ok-faces.faces in
     let counted : n ≡ boundary_of (value scene name) =
-    boundary_found v n (c.in_ok-faces.ensures ∙ ap (λ (a : Vertices). boundary a.dim (cells a.dim a.rows)) c.rows.ensures)
+    boundary_found v n (c.in_ok-faces.ensures ∙ ap (λ (a : Vertices). boundary a.dim (cells a.dim a.rows)) (c.rows.ensures ∙ c.in_ok-solid.ensures))
     ∙ ap boundary_of c.in-Some.ensures.value.1 in
     let text = c.in_ok-say_number.ensures
     ∙ ap (λ (k : ℕ). c.args.out.now.items ++ line_of (codes "ok " ++ decimal k)) counted

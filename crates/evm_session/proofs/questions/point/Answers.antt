@@ -16,7 +16,7 @@ use Rattle.evm_session.proofs.questions.point.Goals as goal
 
 pub returns-in_default-between : goal.returns-in_default-between
 returns-in_default-between c =
-    let v = c.in-Some.solid.now in
+    let v = c.in-Some.tree.now in
     let nums = c.args.nums.now in
     let high : to_z w32 (of_z w32 c.limit-limit.result) ≡ pos (limit c.dim-dim.result) = search rules in
     let low : to_z w32 (of_z w32 (pos 0 -ℤ to_z w32 (of_z w32 c.limit-limit.result))) ≡ neg_ℤ (pos (limit c.dim-dim.result)) = search rules in
@@ -31,14 +31,14 @@ place-place-requires c =
     let high : to_z w32 (of_z w32 c.limit-limit.result) ≡ pos (limit c.dim-dim.result) = search rules in
     let low : to_z w32 (of_z w32 (pos 0 -ℤ to_z w32 (of_z w32 c.limit-limit.result))) ≡ neg_ℤ (pos (limit c.dim-dim.result)) = search rules in
     let place = c.values.ensures ∙ c.in-Some-between.ensures.1 in
-    is_a_point c.dim-dim.result _ c.args.nums.now _ place (sym c.len.ensures ∙ c.if-len-dim.false) (ap (λ (a : Vertices). a.dim) c.rows.ensures ∙ sym c.dim-dim.ensures)
+    is_a_point c.dim-dim.result _ c.args.nums.now _ place (sym c.len.ensures ∙ c.if-len-dim.false) (ap (λ (a : Vertices). a.dim) (c.rows.ensures ∙ c.in_ok-solid.ensures) ∙ sym c.dim-dim.ensures)
     (sym (between_points c.dim-dim.result c.args.nums.now _ _ low high) ∙ c.in-Some-between.ensures.0)
 
 pub returns : goal.returns
 returns c =
     let scene = c.args.scene.now in
     let name = c.args.name.now in
-    let v = c.in-Some.solid.now in
+    let v = c.in-Some.tree.now in
     let nums = c.args.nums.now in
     let high : to_z w32 (of_z w32 c.limit-limit.result) ≡ pos (limit c.dim-dim.result) = search rules in
     let low : to_z w32 (of_z w32 (pos 0 -ℤ to_z w32 (of_z w32 c.limit-limit.result))) ≡ neg_ℤ (pos (limit c.dim-dim.result)) = search rules in
@@ -48,7 +48,7 @@ returns c =
     let place = c.values.ensures ∙ c.in-Some-between.ensures.1 in
     let many : (length nums == v.dim) ≡ true = (Decides-eqb (length nums) v.dim).1 (sym c.len.ensures ∙ c.if-len-dim.false ∙ c.dim-dim.ensures) in
     let placed : place_view c.place-place.result ≡ place_of (value scene name) nums =
-    ap place_view (c.place-place.ensures ∙ ap (λ (a : Vertices). place_in a.dim (cells a.dim a.rows) c.values.result.now) c.rows.ensures ∙ ap (place_in v.dim (cells v.dim v.rows)) place)
+    ap place_view (c.place-place.ensures ∙ ap (λ (a : Vertices). place_in a.dim (cells a.dim a.rows) c.values.result.now) (c.rows.ensures ∙ c.in_ok-solid.ensures) ∙ ap (place_in v.dim (cells v.dim v.rows)) place)
     ∙ place_found v nums
     ∙ ap (λ (a : Figure). place_of a nums) c.in-Some.ensures.value.1 in
     let text = c.in_ok-say.ensures ∙ ap (λ (t : List ℕ). c.args.out.now.items ++ t) (c.placed_text.ensures ∙ ap (λ (x : Place). reply_text (Placed x)) placed) in

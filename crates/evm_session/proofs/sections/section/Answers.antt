@@ -1,6 +1,4 @@
 use Rattle.std.proofs.Common.{◌≡◌, ◌++◌, ◌≤◌, ℕ, true, nat_abs, to_z, of_z, w32, sym, ◌∙◌, refl, ap, subst, rules}
-use Rattle.evm_rows.specs.Rows.{Vertices}
-use Rattle.evm_rows.specs.View.{vertices_of}
 use Rattle.evm_model.specs.Figures.{Figure, slice_of}
 use Rattle.evm_model.specs.Scene.{value}
 use Rattle.evm_model.specs.Replies.{Shown, reply_text}
@@ -9,9 +7,9 @@ use Rattle.evm_session.proofs.Turns.{carried}
 use Rattle.evm_session.proofs.Slicing.{deep_enough, section_by, slice_found}
 use Rattle.evm_session.proofs.sections.section.Goals as goal
 
-pub slice-requires-clause-deep : goal.slice-requires-clause-deep
-slice-requires-clause-deep c =
-    subst (λ (n : ℕ). 2 ≤ n) (sym (ap (λ (a : Vertices). a.dim) c.rows.ensures ∙ c.in-Some.ensures.dim))
+pub section_of-requires-clause-deep : goal.section_of-requires-clause-deep
+section_of-requires-clause-deep c =
+    subst (λ (n : ℕ). 2 ≤ n) (sym c.in-Some.ensures.dim)
     (deep_enough c.args.scene.now c.args.name.now c.facts.ensures c.in-Some.ensures.value.0)
 
 pub returns : goal.returns
@@ -23,8 +21,8 @@ returns c =
     let height = to_z w32 (of_z w32 c.in-Some-height_of.at) in
     let same : height ≡ c.in-Some-height_of.at = search rules in
     let found : figure_of c.in_ok-section.section ≡ slice_of (nat_abs axis) at (value scene name) =
-    slice_found (vertices_of c.rows.result) c.in-Some.solid.now c.in_ok-section.section c.in-Some-axis_of.along axis height at
-    c.rows.ensures c.in_ok-section.ensures.dim c.in_ok-section.ensures.cells c.in-Some-axis_of.ensures.3 (same ∙ c.in-Some-height_of.ensures.1)
+    slice_found c.in-Some.tree.now c.in-Some.tree.now c.in_ok-section.section c.in-Some-axis_of.along axis height at
+    refl c.in_ok-section.ensures.dim c.in_ok-section.ensures.cells c.in-Some-axis_of.ensures.3 (same ∙ c.in-Some-height_of.ensures.1)
     ∙ ap (slice_of (nat_abs axis) at) c.in-Some.ensures.value.1 in
     let text = c.in_ok-say_solid.ensures ∙ ap (λ (a : Figure). c.args.out.now.items ++ reply_text (Shown a)) found in
     carried scene scene c.args.out.now.items c.say_solid.new.out.items (Shown (slice_of (nat_abs axis) at (value scene name))) _

@@ -1,0 +1,31 @@
+-- What a solid has in a box that begins at a cell tells whether it has the cell.
+use Rattle.std.proofs.Common.{◌≡◌, ℕ, Bool, true, false, ◌&&◌, List, [], ◌∷◌, length, ℤ, int_le, int_lt, refl, ap, ap₂, ◌∙◌, arith}
+use Rattle.std.proofs.lemmas.Int.{ints}
+use Rattle.evm_cells.specs.Places.{each, has}
+use Rattle.evm_cells.specs.Limits.{is_cell, is_point, IsCellSet}
+use Rattle.evm_cells.specs.Boxes.{is_box}
+use Rattle.evm_cells.specs.Shapes.{clip}
+use Rattle.evm_cells.proofs.Coords.{le_yes}
+use Rattle.evm_cells.proofs.Insides.{has-clip_of}
+use Rattle.evm_cells.proofs.Universe.{cell_set-cells}
+use Rattle.evm_cells.proofs.Xor.{and_second, and_both}
+use Rattle.evm_rows.specs.Rows.{Vertices, cells_of}
+
+below_itself : (c : List ℤ) → each int_le c c ≡ true
+unfolding each
+below_itself [] = refl
+below_itself (x ∷ c) = and_both (int_le x x) (each int_le c c) (le_yes x x (omega (arith, ints))) (below_itself c)
+
+true_and : (b t : Bool) → t ≡ true → (b && t) ≡ b
+true_and b t e = ap (λ u. b && u) e ∙ and_true b
+  where
+    and_true : (b : Bool) → (b && true) ≡ b
+    and_true true = refl
+    and_true false = refl
+
+pub kept_inside : (v : Vertices) (c end : List ℤ) → is_cell v.dim c ≡ true → is_box v.dim c end ≡ true → has (clip v.dim c end (cells_of v)) c ≡ has (cells_of v) c
+kept_inside v c end m b =
+    has-clip_of v.dim c end (cells_of v) c (cell_set-cells v.dim v.rows)
+    ∙ true_and (has (cells_of v) c) (is_cell v.dim c && (each int_le c c && each int_lt c end))
+    (and_both (is_cell v.dim c) (each int_le c c && each int_lt c end) m
+    (and_both (each int_le c c) (each int_lt c end) (below_itself c) (and_second (is_point v.dim c && is_point v.dim end) (each int_lt c end) b)))
