@@ -1,0 +1,5 @@
+pub mod Steps
+pub mod Once
+pub mod Stated
+pub mod Boxes
+pub mod Unique
