@@ -6,6 +6,13 @@
 //! and need not be the smallest.
 #![tactic(auto)]
 
+mod boxes;
 mod laws;
+mod slabs;
 
+pub use boxes::Boxes;
 pub use laws::cells_stand_in_boxes;
+pub use slabs::split;
+
+#[cfg(test)]
+mod tests;

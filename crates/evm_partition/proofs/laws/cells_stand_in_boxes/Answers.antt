@@ -1,6 +1,6 @@
 use Rattle.evm_partition.proofs.Once.{cells_stand_once}
 use Rattle.evm_partition.proofs.Stated.{list_is_partition}
-use Rattle.evm_partition.proofs.Boxes.{boxes_have_room, union_of_partition}
+use Rattle.evm_partition.proofs.Within.{boxes_have_room, union_of_partition}
 use Rattle.evm_partition.proofs.Unique.{one_partition}
 use Rattle.evm_partition.proofs.laws.cells_stand_in_boxes.Goals as goal
 
