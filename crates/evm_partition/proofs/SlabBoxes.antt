@@ -84,8 +84,9 @@ run_boxes low high cs =
     ∙ ap (λ bs. record { lo = low ∷ []; hi = high ∷ [] } ∷ bs) (after_run high cs)
 
 -- the runs at the start
-pub runs_start : (V : List (List ℤ)) (marks : List (ℤ × List (List ℤ))) → IsVertexList 1 V → marks ≡ couplets_of V → slab_boxes 0 (slabs_left 0 [] marks) ≡ partition 1 (cells 1 V)
-runs_start V marks v e = ap (λ cs. slab_boxes 0 (slabs_left 0 [] cs)) e ∙ ap (slab_boxes 0) (slabs_are_at 1 0 V refl v) ∙ slab_boxes-are 1 0 (cells 1 V) refl
+pub runs_start : (m : ℕ) (V : List (List ℤ)) (marks : List (ℤ × List (List ℤ))) → m ≡ 1 → IsVertexList m V → marks ≡ couplets_of V → slab_boxes 0 (slabs_left 0 [] marks) ≡ partition m (cells m V)
+runs_start m V marks d v e =
+    ap (λ cs. slab_boxes 0 (slabs_left 0 [] cs)) e ∙ ap (slab_boxes 0) (slabs_are_at m 0 V (sym d) v) ∙ slab_boxes-are m 0 (cells m V) (sym d)
 
 -- no run is left
 pub runs_done : (marks : List (ℤ × List (List ℤ))) → None ≡ first_height marks → slab_boxes 0 (slabs_left 0 [] marks) ≡ []

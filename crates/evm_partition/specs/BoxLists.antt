@@ -2,7 +2,8 @@
 use Rattle.std.specs.Prelude.{◌≡◌, ℕ, ◌*◌, ◌%◌, ◌<◌, ◌≤◌, ℤ, List, [], ◌∷◌, ◌++◌, map, length, take, drop, All}
 use Rattle.evm_cells.specs.Boxes.{IsBox}
 use Rattle.evm_cells.specs.Unions.{Ends}
-use Rattle.evm_rows.specs.Rows.{rows_of}
+use Rattle.evm_rows.specs.Rows.{Vertices, rows_of, cells_of}
+use Rattle.evm_partition.specs.Partition.{IsPartition, partition}
 use Rattle.evm_partition.specs.declared.boxes.Front.{Front}
 
 -- what a clause sees of a list of boxes: their dimension, and their ends
@@ -37,3 +38,15 @@ front_of f = record { lo = take f.depth f.lo; hi = take f.depth f.hi }
 -- boxes on the axes that are left, each with the same ends before
 abbrev pub prefixed : Ends → List Ends → List Ends
 prefixed f bs = map (λ b. record { lo = f.lo ++ b.lo; hi = f.hi ++ b.hi }) bs
+
+-- the stated partition of the cells that vertices stand for
+abbrev pub partition_of : Vertices → List Ends
+partition_of v = partition v.dim (cells_of v)
+
+-- the boxes are that partition
+abbrev pub IsPartitionOf : Vertices → List Ends → Type 0
+IsPartitionOf v boxes = IsPartition v.dim (cells_of v) boxes
+
+-- the numbers of its boxes, each with the same ends before
+abbrev pub numbers_after : Ends → Vertices → List ℤ
+numbers_after f v = numbers_of (prefixed f (partition_of v))

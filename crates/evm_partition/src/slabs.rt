@@ -1,9 +1,7 @@
 //! Splits a solid into the boxes of its stated partition.
 ghost use Rattle.std.specs.Prelude.{◌≡◌, ◌+◌, ◌≤◌, ◌++◌, IfOk, OnOk};
-ghost use Rattle.evm_cells.specs.Vertices.{cells};
 ghost use Rattle.evm_rows.specs.View.{vertices_of};
-ghost use Rattle.evm_partition.specs.BoxLists.{front_of, numbers_of, prefixed};
-ghost use Rattle.evm_partition.specs.Partition.{IsPartition, partition};
+ghost use Rattle.evm_partition.specs.BoxLists.{front_of, numbers_after, partition_of, IsPartitionOf};
 
 use crate::boxes::{Boxes, Front};
 use evm_rows::{NoMemory, Rows};
@@ -17,8 +15,8 @@ use std::alloc::{AllocError, Global};
 /// is one list of numbers, 2 n a box, with room for as many numbers as the view has from the start. The one error is want of memory.
 pub fn split(alloc: Global, a: Rows<'_>) -> Result<Boxes, NoMemory>
     ensures dim { IfOk result (λ b. b.dim ≡ (vertices_of a.entry).dim) }
-    ensures boxes { IfOk result (λ b. b.boxes ≡ partition (vertices_of a.entry).dim (cells (vertices_of a.entry).dim (vertices_of a.entry).rows)) }
-    ensures stated { IfOk result (λ b. IsPartition (vertices_of a.entry).dim (cells (vertices_of a.entry).dim (vertices_of a.entry).rows) b.boxes) }
+    ensures boxes { IfOk result (λ b. b.boxes ≡ partition_of (vertices_of a.entry)) }
+    ensures stated { IfOk result (λ b. IsPartitionOf (vertices_of a.entry) b.boxes) }
 {
     let dim = a.dim();
     let mut flat = Vec::with_capacity(alloc, a.flat.len())?;
@@ -34,7 +32,7 @@ fn append_boxes(
     out: &mut Vec<i32>,
 ) -> Result<(), NoMemory>
     requires { front.depth + (vertices_of a).dim ≤ 6 }
-    ensures { OnOk result (out.new.items ≡ out.old.items ++ numbers_of (prefixed (front_of front) (partition (vertices_of a.entry).dim (cells (vertices_of a.entry).dim (vertices_of a.entry).rows)))) }
+    ensures { OnOk result (out.new.items ≡ out.old.items ++ numbers_after (front_of front) (vertices_of a.entry)) }
 {
     if a.dim() == 1 {
         append_runs(a, front, out)?;
@@ -52,7 +50,7 @@ fn append_boxes(
 fn append_runs(a: Rows<'_>, front: Front, out: &mut Vec<i32>) -> Result<(), AllocError>
     requires line { (vertices_of a).dim ≡ 1 }
     requires depth { front.depth + 1 ≤ 6 }
-    ensures { OnOk result (out.new.items ≡ out.old.items ++ numbers_of (prefixed (front_of front) (partition 1 (cells 1 (vertices_of a.entry).rows)))) }
+    ensures { OnOk result (out.new.items ≡ out.old.items ++ numbers_after (front_of front) (vertices_of a.entry)) }
 {
     let mut marks = Marks::of(a);
     while let Some(low) = marks.height() {

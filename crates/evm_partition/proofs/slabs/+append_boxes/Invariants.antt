@@ -1,8 +1,6 @@
 use Rattle.std.proofs.Common.{◌≡◌, ◌+◌, ◌-◌, ◌<◌, ◌++◌, length}
-use Rattle.evm_cells.specs.Vertices.{cells}
-use Rattle.evm_rows.specs.Rows.{rows_of}
-use Rattle.evm_partition.specs.BoxLists.{front_of, numbers_of, prefixed}
-use Rattle.evm_partition.specs.Partition.{partition}
+use Rattle.evm_rows.specs.View.{vertices_of}
+use Rattle.evm_partition.specs.BoxLists.{front_of, numbers_of, numbers_after, prefixed}
 use Rattle.evm_partition.proofs.SlabBoxes.{slab_boxes}
 use Rattle.evm_partition.proofs.slabs.+append_boxes.Given as goal
 
@@ -14,7 +12,7 @@ invariant-loop-sweep l = record {
   some : 0 < l.sweep.dim;
   deep : l.sweep.dim + 1 ≡ l.fn.a.width - l.fn.a.skip;
   so_far : l.out.items ++ numbers_of (prefixed (front_of l.front) (slab_boxes l.sweep.dim l.sweep.left))
-      ≡ l.fn.out.items ++ numbers_of (prefixed (front_of l.front) (partition (l.fn.a.width - l.fn.a.skip) (cells (l.fn.a.width - l.fn.a.skip) (rows_of l.fn.a.flat.now l.fn.a.width l.fn.a.skip))));
+      ≡ l.fn.out.items ++ numbers_after (front_of l.front) (vertices_of l.fn.a);
 }
 
 abbrev pub decreases-loop-sweep : goal.decreases-loop-sweep

@@ -1,6 +1,5 @@
-use Rattle.std.proofs.Common.{◌++◌, [], ◌∷◌, ap, ◌∙◌, sym, rules, w32, subst}
+use Rattle.std.proofs.Common.{◌-◌, ◌++◌, [], ◌∷◌, ap, ◌∙◌, sym, rules, w32, subst}
 use mir.Val.{SFits}
-use Rattle.evm_cells.specs.Vertices.{IsVertexList}
 use Rattle.evm_rows.specs.Rows.{rows_of}
 use Rattle.evm_sections.proofs.Bits.{same32}
 use Rattle.evm_sections.specs.Couplets.{AreSingle, first_height, rest_of, slabs_left}
@@ -11,10 +10,9 @@ use Rattle.evm_partition.proofs.slabs.append_runs.Goals as goal
 pub loop-low-init : goal.loop-low-init
 loop-low-init c =
     let a = c.args.a in
-    let v : IsVertexList 1 (rows_of a.flat.now a.width a.skip) = subst (λ m. IsVertexList m (rows_of a.flat.now a.width a.skip)) c.requires.line a.vertices in
     record {
       single = c.of-marks.ensures.single;
-      so_far = ap (λ bs. c.args.out.now.items ++ numbers_of (prefixed (front_of c.args.front) bs)) (runs_start (rows_of a.flat.now a.width a.skip) c.of-marks.result v c.of-marks.ensures.left);
+      so_far = ap (λ bs. c.args.out.now.items ++ numbers_of (prefixed (front_of c.args.front) bs)) (runs_start (a.width - a.skip) (rows_of a.flat.now a.width a.skip) c.of-marks.result c.requires.line a.vertices c.of-marks.ensures.left);
     }
 
 pub loop-low-preserved : goal.loop-low-preserved
