@@ -83,3 +83,12 @@ next_place k w = omega arith
 
 pub place_width : (k n : ℕ) → 0 < n → k < k * (2 * n) + 2 * n
 place_width k n l = let h : 1 ≤ 2 * n = omega arith in omega (arith, mul-le-mul_left k h)
+
+-- a list of boxes has a box at each place
+pub is_box_at : (n k : ℕ) (flat lo hi : List ℤ) → AreBoxes n flat → k < length (boxes_of n flat) → ((d : Ends) → get_or (boxes_of n flat) k d ≡ record { lo = lo; hi = hi }) → IsBox n lo hi
+is_box_at n k flat lo hi b l e =
+    let none : Ends = record { lo = []; hi = [] } in
+    subst (λ (x : Ends). IsBox n x.lo x.hi) (e none) (b.boxes k none l)
+
+pub box_is_long : (n : ℕ) (lo hi : List ℤ) → 0 < n → IsBox n lo hi → 0 < length lo
+box_is_long n lo hi some b = let (e, u) = point_parts n lo b.low in omega arith

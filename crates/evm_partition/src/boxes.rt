@@ -1,5 +1,6 @@
 //! Lists of boxes as flat numbers.
 ghost use Rattle.std.specs.Prelude.{◌≡◌, ◌+◌, ◌*◌, ◌<◌, ◌≤◌, ◌++◌, [], ◌∷◌, length, slice_index_or, OnOk};
+ghost use Rattle.evm_cells.specs.Boxes.{IsBox};
 ghost use Rattle.evm_cells.specs.Unions.{Ends};
 ghost use Rattle.evm_partition.specs.BoxLists.{AreBoxes, boxes_of, front_of, numbers_of, prefixed};
 
@@ -55,7 +56,9 @@ impl Boxes {
     /// The two ends of a box, counted from 0: its lower corner and its upper corner, borrowed. Takes no memory.
     pub fn ends(&self, index: usize) -> (&[i32], &[i32])
         requires { index < length self.now.boxes }
-        ensures { (d : Ends) → slice_index_or self.now.boxes index d ≡ record { lo = result.0.now; hi = result.1.now } }
+        ensures ends { (d : Ends) → slice_index_or self.now.boxes index d ≡ record { lo = result.0.now; hi = result.1.now } }
+        ensures is_box { IsBox self.now.dim result.0.now result.1.now }
+        ensures some { 0 < length result.0.now }
     {
         let width = 2 * self.dim;
         let row = &self.flat[index * width..(index + 1) * width];
