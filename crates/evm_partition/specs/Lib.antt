@@ -1,0 +1,3 @@
+pub mod Partition
+pub mod Laws
+pub mod BoxLists
