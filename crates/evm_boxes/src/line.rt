@@ -82,7 +82,8 @@ fn read_box(
     requires low { 0 < dim }
     requires high { dim ≤ 6 }
     requires size { length into.old ≡ 2 * dim }
-    ensures { StatesBox dim result (box_of_numbers dim number (just_numbers (2 * dim) (words line.now))) }
+    ensures { StatesBox dim result
+        (box_of_numbers dim number (just_numbers (2 * dim) (words line.now))) }
 {
     if !read_numbers(line, into) {
         return Err(BoxFileError::Line(number));

@@ -75,7 +75,9 @@ fn solid_of(alloc: Global, row: &BoxRow) -> Result<Solid, NoMemory>
     requires high { row.now.dim ≤ 6 }
     requires is_box { IsBoxRow row.now.dim row.now }
     ensures dim { IfOk result (λ s. s.dim ≡ row.now.dim) }
-    ensures rows { IfOk result (λ s. s.rows ≡ evm row.now.dim (box_cells row.now.dim (ends_of row.now).lo (ends_of row.now).hi)) }
+    ensures rows { IfOk result
+        (λ s. s.rows ≡ evm row.now.dim
+        (box_cells row.now.dim (ends_of row.now).lo (ends_of row.now).hi)) }
 {
     match Solid::of_box(alloc, &row.lo[..row.dim], &row.hi[..row.dim]) {
         Ok(solid) => Ok(solid),

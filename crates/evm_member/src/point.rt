@@ -43,7 +43,8 @@ fn odd_levels(a: Rows<'_>, point: &[i32]) -> u64
 /// rows, up to the first that is above the point on the first axis. It takes no memory and cannot fail.
 pub fn place(a: Rows<'_>, point: &[i32]) -> Place
     requires { is_point (vertices_of a).dim point.now ≡ true }
-    ensures { result ≡ place_of (vertices_of a.entry).dim (cells (vertices_of a.entry).dim (vertices_of a.entry).rows) point.now }
+    ensures { result ≡ place_of (vertices_of a.entry).dim
+        (cells (vertices_of a.entry).dim (vertices_of a.entry).rows) point.now }
 {
     match odd_levels(a, point) {
         0 => Place::Outside,

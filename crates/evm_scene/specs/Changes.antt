@@ -42,6 +42,10 @@ Pending = List (List ℕ × Change)
 abbrev pub change_at : Pending → List ℕ → Option Change
 change_at p x = lookup (bytes_eq x) p
 
+-- each is a change of the solid that is kept for its name
+abbrev pub AllChange : Table → Pending → Type 0
+AllChange t p = (x : List ℕ) → IsChange (change_at p x) (kept t x)
+
 -- the figures with the changes in place
 abbrev pub moved : Table → Pending → List ℕ → Figure
 moved t p x = after_of (change_at p x) (kept t x)

@@ -148,3 +148,13 @@ entries_of t = map entry_view t
 
 abbrev pub scene_of : Table → Scene
 scene_of t = record { entries = entries_of t }
+
+-- what each name of a table keeps: its node is sound, its solid is that of its formula, and its formula moves no cell out of the limits
+abbrev pub AllSized : Table → Type 0
+AllSized t = (x : List ℕ) → NodeSized (node_at t x) (dim_at t)
+
+abbrev pub AllFixed : Table → Type 0
+AllFixed t = (x : List ℕ) → kept t x ≡ node_value (node_at t x) (kept t)
+
+abbrev pub AllStay : Table → Type 0
+AllStay t = (x : List ℕ) → node_stays (node_at t x) (kept t) ≡ true

@@ -36,12 +36,15 @@ pub fn add(
 ) -> Result<(), NoMemory>
     requires kept { IsKept table.old.entries order.old.items }
     requires fresh { node_at table.old.entries name ≡ None }
-    requires operands { (o : List ℕ) → is_among o (made_reads node.formula) ≡ true → is_some (node_at table.old.entries o) ≡ true }
+    requires operands { (o : List ℕ) → is_among o (made_reads node.formula) ≡ true
+        → is_some (node_at table.old.entries o) ≡ true }
     requires sized { NodeSized (Some node) (dim_at table.old.entries) }
     requires value { figure_of node.solid ≡ node_value (Some node) (kept table.old.entries) }
     requires stays { node_stays (Some node) (kept table.old.entries) ≡ true }
     ensures kept { IsKept table.new.entries order.new.items }
-    ensures ok { OnOk result (entries_of table.new.entries ≡ entries_of table.old.entries ++ entry_view (name, node) ∷ []) }
+    ensures ok { OnOk result
+        (entries_of table.new.entries
+        ≡ entries_of table.old.entries ++ entry_view (name, node) ∷ []) }
     ensures err { OnErr result (table.new.entries ≡ table.old.entries) }
 {
     if order.reserve(1).is_err() {
@@ -67,7 +70,8 @@ pub fn input(
     requires kept { IsKept table.old.entries order.old.items }
     requires well { IsWell (scene_of table.old.entries) }
     ensures kept { IsKept table.new.entries order.new.items }
-    ensures applies { Applies result (scene_of table.old.entries) (scene_of table.new.entries) (model.Input name dim) }
+    ensures applies { Applies result (scene_of table.old.entries) (scene_of table.new.entries)
+        (model.Input name dim) }
 {
     if table.contains_key(&name) {
         return Err(Refusal::Taken);

@@ -3,7 +3,7 @@
 ghost use Rattle.std.specs.Prelude.{◌≡◌, ◌*◌, ℕ, List, length, true, Some, IfOk, MatchResult};
 ghost use Rattle.evm_model.specs.Figures.{box_fits, low_of, high_of, box_at, clip_of, xor_of};
 ghost use Rattle.evm_model.specs.Scene.{value};
-ghost use Rattle.evm_scene.specs.Tables.{figure_of, node_at, kept, dim_at, NodeSized, scene_of};
+ghost use Rattle.evm_scene.specs.Tables.{figure_of, kept, scene_of, AllSized};
 ghost use Rattle.evm_scene.specs.Orders.{IsKept};
 ghost use Rattle.evm_scene.specs.Changes.{IsChange};
 ghost use Rattle.evm_scene.specs.Applied.{Applies};
@@ -64,7 +64,9 @@ fn box_delta(
     requires fits { box_fits (low_of own.now.dim nums.now) (high_of own.now.dim nums.now) ≡ true }
     requires cuboid { figure_of cuboid ≡ box_at own.now.dim nums.now }
     requires same { cuboid.dim ≡ own.now.dim }
-    ensures value { IfOk result (λ d. xor_of (figure_of own.now) (figure_of d) ≡ figure_by edit (figure_of own.now) (figure_of cuboid)) }
+    ensures value { IfOk result
+        (λ d. xor_of (figure_of own.now) (figure_of d)
+        ≡ figure_by edit (figure_of own.now) (figure_of cuboid)) }
     ensures dim { IfOk result (λ d. d.dim ≡ own.now.dim) }
 {
     match edit {
@@ -93,7 +95,8 @@ fn box_change(
     requires fits { box_fits (low_of own.now.dim nums.now) (high_of own.now.dim nums.now) ≡ true }
     requires cuboid { figure_of cuboid ≡ box_at own.now.dim nums.now }
     requires same { cuboid.dim ≡ own.now.dim }
-    ensures after { IfOk result (λ c. figure_of c.after ≡ figure_by edit (figure_of own.now) (figure_of cuboid)) }
+    ensures after { IfOk result
+        (λ c. figure_of c.after ≡ figure_by edit (figure_of own.now) (figure_of cuboid)) }
     ensures change { IfOk result (λ c. IsChange (Some c) (figure_of own.now)) }
 {
     let delta = box_delta(alloc, edit, own, cuboid, nums)?;
@@ -109,9 +112,12 @@ fn planned(
     name: &Name,
     nums: &Nums,
 ) -> Result<Change, Refusal>
-    requires sized { (x : List ℕ) → NodeSized (node_at table.now.entries x) (dim_at table.now.entries) }
-    requires values { (x : List ℕ) → kept table.now.entries x ≡ value (scene_of table.now.entries) x }
-    ensures { MatchResult result (IsPlanned table.now.entries name.now (edit_by edit name.now nums.now)) (λ r. IsRefused r (scene_of table.now.entries) (edit_by edit name.now nums.now)) }
+    requires sized { AllSized table.now.entries }
+    requires values { (x : List ℕ)
+        → kept table.now.entries x ≡ value (scene_of table.now.entries) x }
+    ensures { MatchResult result
+        (IsPlanned table.now.entries name.now (edit_by edit name.now nums.now))
+        (λ r. IsRefused r (scene_of table.now.entries) (edit_by edit name.now nums.now)) }
 {
     let Some(node) = table.get(name) else {
         return Err(Refusal::Name);
@@ -147,7 +153,8 @@ pub fn edit_by_box(
 ) -> Result<Changed, Refusal>
     requires { IsKept table.old.entries order.now }
     ensures kept { IsKept table.new.entries order.now }
-    ensures applies { Applies result (scene_of table.old.entries) (scene_of table.new.entries) (edit_by edit name.now nums.now) }
+    ensures applies { Applies result (scene_of table.old.entries) (scene_of table.new.entries)
+        (edit_by edit name.now nums.now) }
 {
     let change = match planned(alloc, table, edit, name, nums) {
         Ok(change) => change,

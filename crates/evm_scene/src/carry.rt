@@ -4,10 +4,10 @@ ghost use Rattle.std.specs.Prelude.{◌≡◌, ◌↔◌, ℕ, List, true, false
 ghost use Rattle.evm_delta.specs.Shapes.{Fits, op1_dim};
 ghost use Rattle.evm_model.specs.Orders.{is_among, Ordered};
 ghost use Rattle.evm_model.specs.Scene.{dim_of};
-ghost use Rattle.evm_scene.specs.Tables.{figure_of, node_at, reads_at, node_value, node_stays, kept, dim_at, NodeSized, scene_of};
+ghost use Rattle.evm_scene.specs.Tables.{figure_of, node_at, reads_at, node_value, node_stays, kept, scene_of, AllSized, AllFixed, AllStay};
 ghost use Rattle.evm_scene.specs.Combined.{combine_of};
 ghost use Rattle.evm_scene.specs.Operations.{shape_of, shape_stays};
-ghost use Rattle.evm_scene.specs.Changes.{change_at, moved, after_of, IsChange, IsStill, Moves, MovesNode, IsCarried, IsCarriedTo, IsHalted};
+ghost use Rattle.evm_scene.specs.Changes.{change_at, moved, after_of, IsChange, IsStill, Moves, MovesNode, IsCarried, IsCarriedTo, IsHalted, AllChange};
 
 use super::formulas::solid_of;
 use super::node::{Change, Node, both_changed, one_changed};
@@ -31,14 +31,18 @@ fn both_moved(
     a: &Name,
     b: &Name,
 ) -> Result<Option<Change>, NoMemory>
-    requires sized { (x : List ℕ) → NodeSized (node_at table.now.entries x) (dim_at table.now.entries) }
-    requires changes { (x : List ℕ) → IsChange (change_at pending.now.entries x) (kept table.now.entries x) }
+    requires sized { AllSized table.now.entries }
+    requires changes { AllChange table.now.entries pending.now.entries }
     requires first_stands { is_some (node_at table.now.entries a.now) ≡ true }
     requires second_stands { is_some (node_at table.now.entries b.now) ≡ true }
     requires first { dim_of (scene_of table.now.entries) a.now ≡ own.now.dim }
     requires second { dim_of (scene_of table.now.entries) b.now ≡ own.now.dim }
-    requires value { figure_of own.now ≡ combine_of op (kept table.now.entries a.now) (kept table.now.entries b.now) }
-    ensures after { IfOk result (λ c. after_of c (figure_of own.now) ≡ combine_of op (moved table.now.entries pending.now.entries a.now) (moved table.now.entries pending.now.entries b.now)) }
+    requires value { figure_of own.now
+        ≡ combine_of op (kept table.now.entries a.now) (kept table.now.entries b.now) }
+    ensures after { IfOk result
+        (λ c. after_of c (figure_of own.now)
+        ≡ combine_of op (moved table.now.entries pending.now.entries a.now)
+        (moved table.now.entries pending.now.entries b.now)) }
     ensures change { IfOk result (λ c. IsChange c (figure_of own.now)) }
     ensures moves { IfOk result (λ c. Moves c (figure_of own.now)) }
 {
@@ -63,17 +67,20 @@ fn shape_moved(
     own: &Tiles,
     a: &Name,
 ) -> Result<Option<Change>, DeltaError>
-    requires sized { (x : List ℕ) → NodeSized (node_at table.now.entries x) (dim_at table.now.entries) }
-    requires changes { (x : List ℕ) → IsChange (change_at pending.now.entries x) (kept table.now.entries x) }
+    requires sized { AllSized table.now.entries }
+    requires changes { AllChange table.now.entries pending.now.entries }
     requires stands { is_some (node_at table.now.entries a.now) ≡ true }
     requires fits { Fits op.now (dim_of (scene_of table.now.entries) a.now) }
     requires dim { own.now.dim ≡ op1_dim op.now (dim_of (scene_of table.now.entries) a.now) }
     requires value { figure_of own.now ≡ shape_of op.now (kept table.now.entries a.now) }
     requires stays { shape_stays op.now (kept table.now.entries a.now) ≡ true }
-    ensures after { IfOk result (λ c. after_of c (figure_of own.now) ≡ shape_of op.now (moved table.now.entries pending.now.entries a.now)) }
+    ensures after { IfOk result
+        (λ c. after_of c (figure_of own.now)
+        ≡ shape_of op.now (moved table.now.entries pending.now.entries a.now)) }
     ensures change { IfOk result (λ c. IsChange c (figure_of own.now)) }
     ensures moves { IfOk result (λ c. Moves c (figure_of own.now)) }
-    ensures range { IsErrOf result DeltaError.Range ↔ (shape_stays op.now (moved table.now.entries pending.now.entries a.now) ≡ false) }
+    ensures range { IsErrOf result DeltaError.Range
+        ↔ (shape_stays op.now (moved table.now.entries pending.now.entries a.now) ≡ false) }
 {
     one_changed(alloc, op, own, solid_of(table, a), pending.get(a))
 }
@@ -86,14 +93,20 @@ fn change_of(
     pending: &IndexMap<Name, Change>,
     name: &Name,
 ) -> Result<Option<Change>, DeltaError>
-    requires sized { (x : List ℕ) → NodeSized (node_at table.now.entries x) (dim_at table.now.entries) }
-    requires fixed { (x : List ℕ) → kept table.now.entries x ≡ node_value (node_at table.now.entries x) (kept table.now.entries) }
-    requires changes { (x : List ℕ) → IsChange (change_at pending.now.entries x) (kept table.now.entries x) }
-    requires stays { node_stays (node_at table.now.entries name.now) (kept table.now.entries) ≡ true }
-    ensures after { IfOk result (λ c. after_of c (kept table.now.entries name.now) ≡ node_value (node_at table.now.entries name.now) (moved table.now.entries pending.now.entries)) }
+    requires sized { AllSized table.now.entries }
+    requires fixed { AllFixed table.now.entries }
+    requires changes { AllChange table.now.entries pending.now.entries }
+    requires stays { node_stays (node_at table.now.entries name.now) (kept table.now.entries)
+        ≡ true }
+    ensures after { IfOk result
+        (λ c. after_of c (kept table.now.entries name.now)
+        ≡ node_value (node_at table.now.entries name.now)
+        (moved table.now.entries pending.now.entries)) }
     ensures change { IfOk result (λ c. IsChange c (kept table.now.entries name.now)) }
     ensures moves { IfOk result (λ c. MovesNode c (node_at table.now.entries name.now)) }
-    ensures range { IsErrOf result DeltaError.Range ↔ (node_stays (node_at table.now.entries name.now) (moved table.now.entries pending.now.entries) ≡ false) }
+    ensures range { IsErrOf result DeltaError.Range
+        ↔ (node_stays (node_at table.now.entries name.now)
+        (moved table.now.entries pending.now.entries) ≡ false) }
 {
     let Some(node) = table.get(name) else {
         return Ok(None);
@@ -117,13 +130,17 @@ fn carry_to(
     name: &Name,
     pending: &mut IndexMap<Name, Change>,
 ) -> Result<(), DeltaError>
-    requires sized { (x : List ℕ) → NodeSized (node_at table.now.entries x) (dim_at table.now.entries) }
-    requires fixed { (x : List ℕ) → kept table.now.entries x ≡ node_value (node_at table.now.entries x) (kept table.now.entries) }
-    requires changes { (x : List ℕ) → IsChange (change_at pending.old.entries x) (kept table.now.entries x) }
-    requires stays { node_stays (node_at table.now.entries name.now) (kept table.now.entries) ≡ true }
+    requires sized { AllSized table.now.entries }
+    requires fixed { AllFixed table.now.entries }
+    requires changes { AllChange table.now.entries pending.old.entries }
+    requires stays { node_stays (node_at table.now.entries name.now) (kept table.now.entries)
+        ≡ true }
     requires first { change_at pending.old.entries name.now ≡ None }
-    ensures carried { OnOk result (IsCarriedTo table.now.entries name.now pending.old.entries pending.new.entries) }
-    ensures range { IsErrOf result DeltaError.Range → node_stays (node_at table.now.entries name.now) (moved table.now.entries pending.old.entries) ≡ false }
+    ensures carried { OnOk result
+        (IsCarriedTo table.now.entries name.now pending.old.entries pending.new.entries) }
+    ensures range { IsErrOf result DeltaError.Range
+        → node_stays (node_at table.now.entries name.now)
+        (moved table.now.entries pending.old.entries) ≡ false }
 {
     match change_of(alloc, table, pending, name)? {
         Some(change) => Ok(put(pending, name, change)?),
@@ -154,17 +171,22 @@ pub fn carry(
     later: &[Name],
     pending: &mut IndexMap<Name, Change>,
 ) -> Result<(), DeltaError>
-    requires sized { (x : List ℕ) → NodeSized (node_at table.now.entries x) (dim_at table.now.entries) }
-    requires fixed { (x : List ℕ) → kept table.now.entries x ≡ node_value (node_at table.now.entries x) (kept table.now.entries) }
-    requires stays { (x : List ℕ) → node_stays (node_at table.now.entries x) (kept table.now.entries) ≡ true }
+    requires sized { AllSized table.now.entries }
+    requires fixed { AllFixed table.now.entries }
+    requires stays { AllStay table.now.entries }
     requires front { Ordered (reads_at table.now.entries) [] front.now }
     requires alone { is_among name.now front.now ≡ false }
     requires later { Ordered (reads_at table.now.entries) (name.now ∷ front.now) later.now }
-    requires whole { (x : List ℕ) → is_some (node_at table.now.entries x) ≡ true → is_among x (name.now ∷ front.now) ≡ false → is_among x later.now ≡ true }
-    requires others { (x : List ℕ) → bytes_eq x name.now ≡ false → change_at pending.old.entries x ≡ None }
-    requires change { IsChange (change_at pending.old.entries name.now) (kept table.now.entries name.now) }
-    ensures carried { OnOk result (IsCarried table.now.entries front.now name.now pending.old.entries pending.new.entries) }
-    ensures halted { IsErrOf result DeltaError.Range → IsHalted table.now.entries name.now pending.old.entries }
+    requires whole { (x : List ℕ) → is_some (node_at table.now.entries x) ≡ true
+        → is_among x (name.now ∷ front.now) ≡ false → is_among x later.now ≡ true }
+    requires others { (x : List ℕ) → bytes_eq x name.now ≡ false
+        → change_at pending.old.entries x ≡ None }
+    requires change { IsChange (change_at pending.old.entries name.now)
+        (kept table.now.entries name.now) }
+    ensures carried { OnOk result
+        (IsCarried table.now.entries front.now name.now pending.old.entries pending.new.entries) }
+    ensures halted { IsErrOf result DeltaError.Range
+        → IsHalted table.now.entries name.now pending.old.entries }
 {
     let _ = front;
     if is_still(pending, name) {
@@ -182,7 +204,9 @@ pub fn put(
     name: &Name,
     change: Change,
 ) -> Result<(), NoMemory>
-    ensures { OnOk result ((x : List ℕ) → change_at pending.new.entries x ≡ cond (bytes_eq name.now x) (Some change) (change_at pending.old.entries x)) }
+    ensures { OnOk result
+        ((x : List ℕ) → change_at pending.new.entries x
+        ≡ cond (bytes_eq name.now x) (Some change) (change_at pending.old.entries x)) }
 {
     match pending.insert(*name, change) {
         Ok(_) => Ok(()),

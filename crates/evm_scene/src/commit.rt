@@ -49,7 +49,9 @@ pub struct Own {
 pub fn take_own(pending: &mut IndexMap<Name, Change>, name: &Name) -> Own
     requires { is_some (change_at pending.old.entries name.now) ≡ true }
     ensures here { change_at pending.old.entries name.now ≡ Some result.change }
-    ensures without { (x : List ℕ) → change_at pending.new.entries x ≡ cond (bytes_eq name.now x) None (change_at pending.old.entries x) }
+    ensures without { (x : List ℕ)
+        → change_at pending.new.entries x
+        ≡ cond (bytes_eq name.now x) None (change_at pending.old.entries x) }
     ensures count { IsCount result.change pending.old.entries pending.new.entries result.names }
 {
     let all = pending.len();

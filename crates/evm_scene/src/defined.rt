@@ -5,7 +5,7 @@ ghost use Rattle.evm_model.specs.Orders.{is_among, Ordered};
 ghost use Rattle.evm_model.specs.Scene.{operands, dim_of, formula_fits, formula_dim, IsWell};
 ghost use Rattle.evm_model.specs.Edits as model;
 ghost use Rattle.evm_model.specs.Edits.{lacks_operand, misses_dim};
-ghost use Rattle.evm_scene.specs.Tables.{figure_of, node_at, reads_at, node_value, node_stays, kept, dim_at, is_made, NodeSized, put_made, scene_of};
+ghost use Rattle.evm_scene.specs.Tables.{figure_of, node_at, reads_at, kept, is_made, put_made, scene_of, AllSized, AllFixed, AllStay};
 ghost use Rattle.evm_scene.specs.Orders.{IsKept, Parted};
 ghost use Rattle.evm_scene.specs.Changes.{change_at, IsChange, IsCarried, IsHalted, IsRedefined, IsStuck, IsInstalled};
 ghost use Rattle.evm_scene.specs.Definitions.{IsFree};
@@ -41,7 +41,8 @@ fn make(
     requires fresh { is_some (node_at table.old.entries name) ≡ false }
     requires present { lacks_operand (scene_of table.old.entries) name formula ≡ false }
     ensures kept { IsKept table.new.entries order.new.items }
-    ensures applies { Applies result (scene_of table.old.entries) (scene_of table.new.entries) (model.Def name formula) }
+    ensures applies { Applies result (scene_of table.old.entries) (scene_of table.new.entries)
+        (model.Def name formula) }
 {
     if names(&formula, &name) {
         return Err(Refusal::Cycle);
@@ -96,7 +97,8 @@ fn parted(
 ) -> Result<Parts, NoMemory>
     requires kept { IsKept table.now.entries order.now }
     requires stands { is_some (node_at table.now.entries name.now) ≡ true }
-    ensures { IfOk result (λ p. Parted (reads_at table.now.entries) order.now name.now p.front.items p.reach.keys []) }
+    ensures { IfOk result
+        (λ p. Parted (reads_at table.now.entries) order.now name.now p.front.items p.reach.keys []) }
 {
     let (before, later) = around(order, name);
     let mut front = copied(alloc, before)?;
@@ -116,7 +118,8 @@ fn free_parts(
 ) -> Result<Parts, Refusal>
     requires kept { IsKept table.now.entries order.now }
     requires stands { is_some (node_at table.now.entries name.now) ≡ true }
-    requires present { (o : List ℕ) → is_among o (operands formula.now) ≡ true → is_some (node_at table.now.entries o) ≡ true }
+    requires present { (o : List ℕ) → is_among o (operands formula.now) ≡ true
+        → is_some (node_at table.now.entries o) ≡ true }
     ensures { IsFree result table.now.entries order.now name.now formula.now }
 {
     let parts = parted(alloc, table, order, name)?;
@@ -136,16 +139,19 @@ fn seeded(
     later: &[Name],
     change: Change,
 ) -> Result<IndexMap<Name, Change>, DeltaError>
-    requires sized { (x : List ℕ) → NodeSized (node_at table.now.entries x) (dim_at table.now.entries) }
-    requires fixed { (x : List ℕ) → kept table.now.entries x ≡ node_value (node_at table.now.entries x) (kept table.now.entries) }
-    requires stays { (x : List ℕ) → node_stays (node_at table.now.entries x) (kept table.now.entries) ≡ true }
+    requires sized { AllSized table.now.entries }
+    requires fixed { AllFixed table.now.entries }
+    requires stays { AllStay table.now.entries }
     requires front { Ordered (reads_at table.now.entries) [] front.now }
     requires alone { is_among name.now front.now ≡ false }
     requires later { Ordered (reads_at table.now.entries) (name.now ∷ front.now) later.now }
-    requires whole { (x : List ℕ) → is_some (node_at table.now.entries x) ≡ true → is_among x (name.now ∷ front.now) ≡ false → is_among x later.now ≡ true }
+    requires whole { (x : List ℕ) → is_some (node_at table.now.entries x) ≡ true
+        → is_among x (name.now ∷ front.now) ≡ false → is_among x later.now ≡ true }
     requires change { IsChange (Some change) (kept table.now.entries name.now) }
-    ensures carried { IfOk result (λ p. IsCarried table.now.entries front.now name.now ((name.now, change) ∷ []) p.entries) }
-    ensures halted { IsErrOf result DeltaError.Range → IsHalted table.now.entries name.now ((name.now, change) ∷ []) }
+    ensures carried { IfOk result
+        (λ p. IsCarried table.now.entries front.now name.now ((name.now, change) ∷ []) p.entries) }
+    ensures halted { IsErrOf result DeltaError.Range
+        → IsHalted table.now.entries name.now ((name.now, change) ∷ []) }
 {
     let mut pending = IndexMap::new(alloc);
     put(&mut pending, name, change)?;
@@ -164,11 +170,15 @@ fn reformed(
     after: Solid,
 ) -> Result<IndexMap<Name, Change>, DeltaError>
     requires kept { IsKept table.now.entries order.now }
-    requires parted { Parted (reads_at table.now.entries) order.now name.now parts.now.front.items parts.now.reach.keys [] }
+    requires parted { Parted
+        (reads_at table.now.entries) order.now name.now parts.now.front.items parts.now.reach.keys [] }
     requires stands { is_some (node_at table.now.entries name.now) ≡ true }
     requires same { after.dim ≡ dim_of (scene_of table.now.entries) name.now }
-    ensures redefined { IfOk result (λ p. IsRedefined table.now.entries parts.now.front.items name.now (figure_of after) p.entries) }
-    ensures stuck { IsErrOf result DeltaError.Range → IsStuck table.now.entries name.now (figure_of after) }
+    ensures redefined { IfOk result
+        (λ p. IsRedefined table.now.entries parts.now.front.items name.now
+        (figure_of after) p.entries) }
+    ensures stuck { IsErrOf result DeltaError.Range
+        → IsStuck table.now.entries name.now (figure_of after) }
 {
     let _ = order;
     let [_, later @ ..] = parts.reach.as_slice() else {
@@ -220,9 +230,14 @@ fn joined(parts: Parts) -> Result<Vec<Name>, NoMemory>
 
 /// The dimension of a formula, or none exactly where it has none, or another than the name that stands.
 fn fitting(table: &IndexMap<Name, Node>, name: &Name, formula: &Formula) -> Option<usize>
-    requires sized { (x : List ℕ) → NodeSized (node_at table.now.entries x) (dim_at table.now.entries) }
+    requires sized { AllSized table.now.entries }
     requires stands { is_some (node_at table.now.entries name.now) ≡ true }
-    ensures { MatchOption result (misses_dim (scene_of table.now.entries) name.now formula.now ≡ true) (λ n. (misses_dim (scene_of table.now.entries) name.now formula.now ≡ false) × (formula_fits (scene_of table.now.entries) formula.now ≡ true) × (n ≡ formula_dim (scene_of table.now.entries) formula.now) × (n ≡ dim_of (scene_of table.now.entries) name.now)) }
+    ensures { MatchOption result
+        (misses_dim (scene_of table.now.entries) name.now formula.now ≡ true)
+        (λ n. (misses_dim (scene_of table.now.entries) name.now formula.now ≡ false)
+        × (formula_fits (scene_of table.now.entries) formula.now ≡ true)
+        × (n ≡ formula_dim (scene_of table.now.entries) formula.now)
+        × (n ≡ dim_of (scene_of table.now.entries) name.now)) }
 {
     match dim_stated(table, formula) {
         Some(dim) => {
@@ -248,7 +263,8 @@ fn redefine(
     requires made { is_made (node_at table.old.entries name.now) ≡ true }
     requires present { lacks_operand (scene_of table.old.entries) name.now formula ≡ false }
     ensures kept { IsKept table.new.entries order.new.items }
-    ensures applies { Applies result (scene_of table.old.entries) (scene_of table.new.entries) (model.Def name.now formula) }
+    ensures applies { Applies result (scene_of table.old.entries) (scene_of table.new.entries)
+        (model.Def name.now formula) }
 {
     let _names = table.len();
     let parts = match free_parts(alloc, table, order.as_slice(), name, &formula) {
@@ -295,7 +311,8 @@ pub fn define(
     requires kept { IsKept table.old.entries order.old.items }
     requires well { IsWell (scene_of table.old.entries) }
     ensures kept { IsKept table.new.entries order.new.items }
-    ensures applies { Applies result (scene_of table.old.entries) (scene_of table.new.entries) (model.Def name formula) }
+    ensures applies { Applies result (scene_of table.old.entries) (scene_of table.new.entries)
+        (model.Def name formula) }
 {
     if lacks(table, &name, &formula) {
         return Err(Refusal::Name);

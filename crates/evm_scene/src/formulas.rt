@@ -5,7 +5,7 @@ ghost use Rattle.evm_delta.specs.Shapes.{Fits, op1_dim};
 ghost use Rattle.evm_model.specs.Orders.{is_among};
 ghost use Rattle.evm_model.specs.Scene.{operands, dim_of, formula_fits, formula_dim, formula_in_range};
 ghost use Rattle.evm_model.specs.Edits.{lacks_operand};
-ghost use Rattle.evm_scene.specs.Tables.{figure_of, node_at, kept, dim_at, NodeSized, scene_of};
+ghost use Rattle.evm_scene.specs.Tables.{figure_of, node_at, kept, scene_of, AllSized};
 ghost use Rattle.evm_scene.specs.Combined.{combine_of};
 ghost use Rattle.evm_scene.specs.Operations.{shape_of, shape_stays};
 ghost use Rattle.evm_scene.specs.Definitions.{is_missing, IsMade, IsValue};
@@ -45,7 +45,7 @@ pub fn lacks(table: &IndexMap<Name, Node>, name: &Name, formula: &Formula) -> bo
 
 /// The dimension of a name, 0 where it does not stand.
 pub fn dim_named(table: &IndexMap<Name, Node>, name: &Name) -> usize
-    requires sized { (x : List ℕ) → NodeSized (node_at table.now.entries x) (dim_at table.now.entries) }
+    requires sized { AllSized table.now.entries }
     ensures value { result ≡ dim_of (scene_of table.now.entries) name.now }
     ensures low { is_some (node_at table.now.entries name.now) ≡ true → 2 ≤ result }
     ensures high { result ≤ 6 }
@@ -66,8 +66,10 @@ fn only(fits: bool, dim: usize) -> Option<usize>
 /// The dimension of a formula, or none exactly where it has none: its operands differ in it, it states no axis of theirs or
 /// not as many numbers as they ask for, or solids have no such dimension.
 pub fn dim_stated(table: &IndexMap<Name, Node>, formula: &Formula) -> Option<usize>
-    requires sized { (x : List ℕ) → NodeSized (node_at table.now.entries x) (dim_at table.now.entries) }
-    ensures { MatchOption result (formula_fits (scene_of table.now.entries) formula.now ≡ false) (λ n. (formula_fits (scene_of table.now.entries) formula.now ≡ true) × (n ≡ formula_dim (scene_of table.now.entries) formula.now)) }
+    requires sized { AllSized table.now.entries }
+    ensures { MatchOption result (formula_fits (scene_of table.now.entries) formula.now ≡ false)
+        (λ n. (formula_fits (scene_of table.now.entries) formula.now ≡ true)
+        × (n ≡ formula_dim (scene_of table.now.entries) formula.now)) }
 {
     match *formula {
         Formula::Or { a, b }
@@ -106,8 +108,9 @@ pub fn dim_stated(table: &IndexMap<Name, Node>, formula: &Formula) -> Option<usi
 
 /// Whether the numbers that a formula states are in their limits, where its operands stand and it fits them.
 fn in_range(table: &IndexMap<Name, Node>, formula: &Formula) -> bool
-    requires sized { (x : List ℕ) → NodeSized (node_at table.now.entries x) (dim_at table.now.entries) }
-    requires present { (o : List ℕ) → is_among o (operands formula.now) ≡ true → is_some (node_at table.now.entries o) ≡ true }
+    requires sized { AllSized table.now.entries }
+    requires present { (o : List ℕ) → is_among o (operands formula.now) ≡ true
+        → is_some (node_at table.now.entries o) ≡ true }
     requires fits { formula_fits (scene_of table.now.entries) formula.now ≡ true }
     ensures { result ≡ formula_in_range (scene_of table.now.entries) formula.now }
 {
@@ -123,7 +126,7 @@ fn in_range(table: &IndexMap<Name, Node>, formula: &Formula) -> bool
 
 /// The solid that is kept for a name.
 pub fn solid_of<'a>(table: &'a IndexMap<Name, Node>, name: &Name) -> &'a Tiles
-    requires sized { (x : List ℕ) → NodeSized (node_at table.now.entries x) (dim_at table.now.entries) }
+    requires sized { AllSized table.now.entries }
     requires stands { is_some (node_at table.now.entries name.now) ≡ true }
     ensures value { figure_of result.now ≡ kept table.now.entries name.now }
     ensures dim { result.now.dim ≡ dim_of (scene_of table.now.entries) name.now }
@@ -142,11 +145,14 @@ fn both(
     a: &Name,
     b: &Name,
 ) -> Result<Solid, NoMemory>
-    requires sized { (x : List ℕ) → NodeSized (node_at table.now.entries x) (dim_at table.now.entries) }
+    requires sized { AllSized table.now.entries }
     requires first { is_some (node_at table.now.entries a.now) ≡ true }
     requires second { is_some (node_at table.now.entries b.now) ≡ true }
-    requires same { dim_of (scene_of table.now.entries) b.now ≡ dim_of (scene_of table.now.entries) a.now }
-    ensures value { IfOk result (λ s. figure_of s ≡ combine_of op (kept table.now.entries a.now) (kept table.now.entries b.now)) }
+    requires same { dim_of (scene_of table.now.entries) b.now
+        ≡ dim_of (scene_of table.now.entries) a.now }
+    ensures value { IfOk result
+        (λ s. figure_of s
+        ≡ combine_of op (kept table.now.entries a.now) (kept table.now.entries b.now)) }
     ensures dim { IfOk result (λ s. s.dim ≡ dim_of (scene_of table.now.entries) a.now) }
 {
     combine(alloc, op, solid_of(table, a), solid_of(table, b))
@@ -155,13 +161,16 @@ fn both(
 /// A shape of the solid of a name. It is `Range` only where the shape moves some cell out of the limits, and a solid only where it
 /// moves none.
 fn one(alloc: Global, table: &IndexMap<Name, Node>, op: &Op1, a: &Name) -> Result<Solid, DeltaError>
-    requires sized { (x : List ℕ) → NodeSized (node_at table.now.entries x) (dim_at table.now.entries) }
+    requires sized { AllSized table.now.entries }
     requires stands { is_some (node_at table.now.entries a.now) ≡ true }
     requires fits { Fits op.now (dim_of (scene_of table.now.entries) a.now) }
-    ensures value { IfOk result (λ s. figure_of s ≡ shape_of op.now (kept table.now.entries a.now)) }
-    ensures dim { IfOk result (λ s. s.dim ≡ op1_dim op.now (dim_of (scene_of table.now.entries) a.now)) }
+    ensures value { IfOk result
+        (λ s. figure_of s ≡ shape_of op.now (kept table.now.entries a.now)) }
+    ensures dim { IfOk result
+        (λ s. s.dim ≡ op1_dim op.now (dim_of (scene_of table.now.entries) a.now)) }
     ensures stays { IfOk result (λ _. shape_stays op.now (kept table.now.entries a.now) ≡ true) }
-    ensures range { IsErrOf result DeltaError.Range → shape_stays op.now (kept table.now.entries a.now) ≡ false }
+    ensures range { IsErrOf result DeltaError.Range
+        → shape_stays op.now (kept table.now.entries a.now) ≡ false }
 {
     shape(alloc, op, solid_of(table, a))
 }
@@ -176,11 +185,13 @@ pub fn evaluate(
     formula: &Formula,
     dim: usize,
 ) -> Result<Solid, Refusal>
-    requires sized { (x : List ℕ) → NodeSized (node_at table.now.entries x) (dim_at table.now.entries) }
-    requires present { (o : List ℕ) → is_among o (operands formula.now) ≡ true → is_some (node_at table.now.entries o) ≡ true }
+    requires sized { AllSized table.now.entries }
+    requires present { (o : List ℕ) → is_among o (operands formula.now) ≡ true
+        → is_some (node_at table.now.entries o) ≡ true }
     requires fits { formula_fits (scene_of table.now.entries) formula.now ≡ true }
     requires dim { dim ≡ formula_dim (scene_of table.now.entries) formula.now }
-    ensures { IsMade result (scene_of table.now.entries) formula.now (kept table.now.entries) (IsValue dim formula.now (kept table.now.entries)) }
+    ensures { IsMade result (scene_of table.now.entries) formula.now (kept table.now.entries)
+        (IsValue dim formula.now (kept table.now.entries)) }
 {
     if !in_range(table, formula) {
         return Err(Refusal::Range);

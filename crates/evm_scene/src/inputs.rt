@@ -54,8 +54,10 @@ pub fn changes(
     requires kept { IsKept table.now.entries order.now }
     requires stands { is_some (node_at table.now.entries name.now) ≡ true }
     requires change { IsChange (Some change) (kept table.now.entries name.now) }
-    ensures carried { IfOk result (λ p. IsCarried table.now.entries [] name.now ((name.now, change) ∷ []) p.entries) }
-    ensures halted { IsErrOf result DeltaError.Range → IsHalted table.now.entries name.now ((name.now, change) ∷ []) }
+    ensures carried { IfOk result
+        (λ p. IsCarried table.now.entries [] name.now ((name.now, change) ∷ []) p.entries) }
+    ensures halted { IsErrOf result DeltaError.Range
+        → IsHalted table.now.entries name.now ((name.now, change) ∷ []) }
 {
     let (front, later) = around(order, name);
     let mut pending = IndexMap::new(alloc);
@@ -80,10 +82,17 @@ pub fn set_input(
     requires input { is_made (node_at table.old.entries name.now) ≡ false }
     requires change { IsChange (Some change) (kept table.old.entries name.now) }
     ensures kept { IsKept table.new.entries order.now }
-    ensures ok { OnOk result (scene_of table.new.entries ≡ with_figure (scene_of table.old.entries) name.now (figure_of change.after)) }
-    ensures count { IfOk result (λ n. n ≡ changed_names (scene_of table.old.entries) (scene_of table.new.entries)) }
-    ensures stays { OnOk result (all_stay (with_figure (scene_of table.old.entries) name.now (figure_of change.after)) ≡ true) }
-    ensures range { IsErrOf result DeltaError.Range → all_stay (with_figure (scene_of table.old.entries) name.now (figure_of change.after)) ≡ false }
+    ensures ok { OnOk result
+        (scene_of table.new.entries
+        ≡ with_figure (scene_of table.old.entries) name.now (figure_of change.after)) }
+    ensures count { IfOk result
+        (λ n. n ≡ changed_names (scene_of table.old.entries) (scene_of table.new.entries)) }
+    ensures stays { OnOk result
+        (all_stay (with_figure (scene_of table.old.entries) name.now (figure_of change.after))
+        ≡ true) }
+    ensures range { IsErrOf result DeltaError.Range
+        → all_stay (with_figure (scene_of table.old.entries) name.now (figure_of change.after))
+        ≡ false }
     ensures err { OnErr result (table.new.entries ≡ table.old.entries) }
 {
     let _names = table.len();

@@ -56,7 +56,8 @@ fn delta_or<'a>(change: Option<&'a Change>, own: &Tiles, still: &'a Solid) -> &'
     requires still { figure_of still.now ≡ nothing own.now.dim }
     requires dim { still.now.dim ≡ own.now.dim }
     ensures dim { result.now.dim ≡ own.now.dim }
-    ensures after { xor_of (figure_of own.now) (figure_of result.now) ≡ after_of (option_copied change.entry) (figure_of own.now) }
+    ensures after { xor_of (figure_of own.now) (figure_of result.now)
+        ≡ after_of (option_copied change.entry) (figure_of own.now) }
 {
     stays(own);
     match change {
@@ -82,7 +83,10 @@ pub fn both_changed(
     requires second { b.now.dim ≡ own.now.dim }
     requires first_change { IsChange (option_copied da) (figure_of a.now) }
     requires second_change { IsChange (option_copied db) (figure_of b.now) }
-    ensures after { IfOk result (λ c. after_of c (figure_of own.now) ≡ combine_of op (after_of (option_copied da.entry) (figure_of a.now)) (after_of (option_copied db.entry) (figure_of b.now))) }
+    ensures after { IfOk result
+        (λ c. after_of c (figure_of own.now)
+        ≡ combine_of op (after_of (option_copied da.entry) (figure_of a.now))
+        (after_of (option_copied db.entry) (figure_of b.now))) }
     ensures change { IfOk result (λ c. IsChange c (figure_of own.now)) }
     ensures moves { IfOk result (λ c. Moves c (figure_of own.now)) }
 {
@@ -117,10 +121,13 @@ pub fn one_changed(
     requires dim { own.now.dim ≡ op1_dim op.now a.now.dim }
     requires stays { shape_stays op.now (figure_of a.now) ≡ true }
     requires change { IsChange (option_copied da) (figure_of a.now) }
-    ensures after { IfOk result (λ c. after_of c (figure_of own.now) ≡ shape_of op.now (after_of (option_copied da.entry) (figure_of a.now))) }
+    ensures after { IfOk result
+        (λ c. after_of c (figure_of own.now)
+        ≡ shape_of op.now (after_of (option_copied da.entry) (figure_of a.now))) }
     ensures change { IfOk result (λ c. IsChange c (figure_of own.now)) }
     ensures moves { IfOk result (λ c. Moves c (figure_of own.now)) }
-    ensures range { IsErrOf result DeltaError.Range ↔ (shape_stays op.now (after_of (option_copied da.entry) (figure_of a.now)) ≡ false) }
+    ensures range { IsErrOf result DeltaError.Range
+        ↔ (shape_stays op.now (after_of (option_copied da.entry) (figure_of a.now)) ≡ false) }
 {
     let Some(moved) = da else {
         return Ok(None);

@@ -11,7 +11,9 @@ use std::alloc::Global;
 
 /// The dimension that a number states, or `None` exactly where named solids have no such dimension.
 pub fn stated(dim: Num) -> Option<usize>
-    ensures { MatchOption result (is_dim dim ≡ false) (λ n. (is_dim dim ≡ true) × (n ≡ nat_abs dim) × (is_dim (pos n) ≡ true) × (0 < n) × (n ≤ 6)) }
+    ensures { MatchOption result (is_dim dim ≡ false)
+        (λ n. (is_dim dim ≡ true) × (n ≡ nat_abs dim) × (is_dim (pos n) ≡ true) × (0 < n)
+        × (n ≤ 6)) }
 {
     let n = dim.value();
     if 2 <= n && n <= 6 {

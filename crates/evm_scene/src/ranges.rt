@@ -24,7 +24,8 @@ pub fn is_axis(dim: usize, axis: Num) -> bool
 /// One less than a dimension, or none exactly where it is 2 or this is no axis of it.
 pub fn less_one(dim: usize, axis: Num) -> Option<usize>
     requires { dim ≤ 6 }
-    ensures { MatchOption result ((not (dim == 2) && model.is_axis dim axis) ≡ false) (λ n. ((not (dim == 2) && model.is_axis dim axis) ≡ true) × (n ≡ dim - 1)) }
+    ensures { MatchOption result ((not (dim == 2) && model.is_axis dim axis) ≡ false)
+        (λ n. ((not (dim == 2) && model.is_axis dim axis) ≡ true) × (n ≡ dim - 1)) }
 {
     if dim != 2 && is_axis(dim, axis) {
         Some(dim - 1)
@@ -36,7 +37,8 @@ pub fn less_one(dim: usize, axis: Num) -> Option<usize>
 /// One more than a dimension, or none exactly where it is 6 or this is no axis of it.
 pub fn one_more(dim: usize, axis: Num) -> Option<usize>
     requires { dim ≤ 6 }
-    ensures { MatchOption result ((not (dim == 6) && model.is_axis (dim + 1) axis) ≡ false) (λ n. ((not (dim == 6) && model.is_axis (dim + 1) axis) ≡ true) × (n ≡ dim + 1)) }
+    ensures { MatchOption result ((not (dim == 6) && model.is_axis (dim + 1) axis) ≡ false)
+        (λ n. ((not (dim == 6) && model.is_axis (dim + 1) axis) ≡ true) × (n ≡ dim + 1)) }
 {
     if dim != 6 && is_axis(dim + 1, axis) {
         Some(dim + 1)

@@ -65,7 +65,8 @@ pub fn remove(
     requires kept { IsKept table.old.entries order.old.items }
     requires well { IsWell (scene_of table.old.entries) }
     ensures kept { IsKept table.new.entries order.new.items }
-    ensures applies { Applies result (scene_of table.old.entries) (scene_of table.new.entries) (model.Drop name.now) }
+    ensures applies { Applies result (scene_of table.old.entries) (scene_of table.new.entries)
+        (model.Drop name.now) }
 {
     if !table.contains_key(name) {
         return Err(Refusal::Name);

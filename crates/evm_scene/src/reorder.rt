@@ -75,7 +75,8 @@ pub fn part(
     requires ordered { Ordered (reads_at table.now.entries) [] front.old.items }
     requires own { Ordered (reads_at table.now.entries) front.old.items (name.now ∷ later.now) }
     requires reach { reach.old.keys ≡ name.now ∷ [] }
-    ensures { OnOk result (Parted (reads_at table.now.entries) order.now name.now front.new.items reach.new.keys []) }
+    ensures { OnOk result
+        (Parted (reads_at table.now.entries) order.now name.now front.new.items reach.new.keys []) }
 {
     let _ = order;
     let _ = name;

@@ -1,9 +1,9 @@
 //! Inputs that get another solid.
 
-ghost use Rattle.std.specs.Prelude.{◌≡◌, ℕ, List, MatchResult};
+ghost use Rattle.std.specs.Prelude.{◌≡◌, MatchResult};
 ghost use Rattle.evm_model.specs.Scene.{value};
 ghost use Rattle.evm_model.specs.Edits as model;
-ghost use Rattle.evm_scene.specs.Tables.{figure_of, node_at, kept, dim_at, NodeSized, scene_of};
+ghost use Rattle.evm_scene.specs.Tables.{figure_of, kept, scene_of, AllSized};
 ghost use Rattle.evm_scene.specs.Orders.{IsKept};
 ghost use Rattle.evm_scene.specs.Applied.{Applies};
 ghost use Rattle.evm_scene.specs.InputEdits.{IsRefused, IsPlanned};
@@ -23,8 +23,10 @@ fn planned(
     name: &Name,
     solid: Solid,
 ) -> Result<Change, Refusal>
-    requires { (x : List ℕ) → NodeSized (node_at table.now.entries x) (dim_at table.now.entries) }
-    ensures { MatchResult result (IsPlanned table.now.entries name.now (model.Replace name.now (figure_of solid))) (λ r. IsRefused r (scene_of table.now.entries) (model.Replace name.now (figure_of solid))) }
+    requires { AllSized table.now.entries }
+    ensures { MatchResult result
+        (IsPlanned table.now.entries name.now (model.Replace name.now (figure_of solid)))
+        (λ r. IsRefused r (scene_of table.now.entries) (model.Replace name.now (figure_of solid))) }
 {
     let Some(node) = table.get(name) else {
         return Err(Refusal::Name);
@@ -54,7 +56,8 @@ pub fn replace(
 ) -> Result<Changed, Refusal>
     requires { IsKept table.old.entries order.now }
     ensures kept { IsKept table.new.entries order.now }
-    ensures applies { Applies result (scene_of table.old.entries) (scene_of table.new.entries) (model.Replace name.now (figure_of solid)) }
+    ensures applies { Applies result (scene_of table.old.entries) (scene_of table.new.entries)
+        (model.Replace name.now (figure_of solid)) }
 {
     let change = match planned(alloc, table, name, solid) {
         Ok(change) => change,

@@ -58,7 +58,8 @@ impl Scene {
     /// The rows of the solid of a name. The refusal is `Name` exactly where the name does not stand, and else `NoMemory`, where
     /// there is none for the rows.
     pub fn solid(&self, alloc: Global, name: &Name) -> Result<Solid, Refusal>
-        ensures ok { IfOk result (λ s. (stands self.now name.now ≡ true) × (figure_of s ≡ value self.now name.now)) }
+        ensures ok { IfOk result
+            (λ s. (stands self.now name.now ≡ true) × (figure_of s ≡ value self.now name.now)) }
         ensures err { IfErr result (λ e. Refuses e (stands self.now name.now ≡ false)) }
     {
         match self.kept(name) {
@@ -69,10 +70,12 @@ impl Scene {
 
     /// The solid of a name as a tree of tiles, borrowed: none exactly where the name does not stand. Takes no memory.
     pub fn kept(&self, name: &Name) -> Option<&Tiles>
-        ensures value { MatchOption result (stands self.now name.now ≡ false) (λ s. (stands self.now name.now ≡ true) × (figure_of s.now ≡ value self.now name.now)) }
+        ensures value { MatchOption result (stands self.now name.now ≡ false)
+            (λ s. (stands self.now name.now ≡ true) × (figure_of s.now ≡ value self.now name.now)) }
         ensures dim { IfSome result (λ s. s.now.dim ≡ dim_of self.now name.now) }
         ensures solid { IfSome result (λ s. IsSolid s.now) }
-        ensures vertices { IfSome result (λ s. s.now.rows ≡ evm s.now.dim (cells s.now.dim s.now.rows)) }
+        ensures vertices { IfSome result
+            (λ s. s.now.rows ≡ evm s.now.dim (cells s.now.dim s.now.rows)) }
     {
         let Some(node) = self.table.get(name) else {
             return None;
@@ -101,7 +104,9 @@ impl Scene {
 
     /// The dimension of a name, and whether it is an input: none exactly where the name does not stand.
     pub fn entry(&self, name: &Name) -> Option<Entry>
-        ensures { MatchOption result (stands self.now name.now ≡ false) (λ e. (stands self.now name.now ≡ true) × (e.dim ≡ dim_of self.now name.now) × (e.input ≡ is_input self.now name.now)) }
+        ensures { MatchOption result (stands self.now name.now ≡ false)
+            (λ e. (stands self.now name.now ≡ true) × (e.dim ≡ dim_of self.now name.now)
+            × (e.input ≡ is_input self.now name.now)) }
     {
         let Some(node) = self.table.get(name) else {
             return None;

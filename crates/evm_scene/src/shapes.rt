@@ -29,9 +29,12 @@ pub fn shape_change(alloc: Global, op: &Op1, a: &Tiles, da: &Solid) -> Result<So
     requires fits { Fits op.now a.now.dim }
     requires same { da.now.dim ≡ a.now.dim }
     requires stays { shape_stays op.now (figure_of a.now) ≡ true }
-    ensures carries { IfOk result (λ d. xor_of (shape_of op.now (figure_of a.now)) (figure_of d) ≡ shape_of op.now (xor_of (figure_of a.now) (figure_of da.now))) }
+    ensures carries { IfOk result
+        (λ d. xor_of (shape_of op.now (figure_of a.now)) (figure_of d)
+        ≡ shape_of op.now (xor_of (figure_of a.now) (figure_of da.now))) }
     ensures dim { IfOk result (λ d. d.dim ≡ op1_dim op.now a.now.dim) }
-    ensures range { IsErrOf result DeltaError.Range ↔ (shape_stays op.now (xor_of (figure_of a.now) (figure_of da.now)) ≡ false) }
+    ensures range { IsErrOf result DeltaError.Range
+        ↔ (shape_stays op.now (xor_of (figure_of a.now) (figure_of da.now)) ≡ false) }
 {
     evm_delta::delta1(alloc, op, a, da.rows())
 }

@@ -61,12 +61,16 @@ pub fn exclusive_or(alloc: Global, a: &Solid, b: &Solid) -> Result<Solid, NoMemo
 /// The solid after a change, the exclusive or of the two. It shares with the solid before what the change does not meet.
 pub fn changed(alloc: Global, own: &Tiles, delta: &Solid) -> Result<Tiles, NoMemory>
     requires { delta.now.dim ≡ own.now.dim }
-    ensures value { IfOk result (λ t. figure_of t ≡ xor_of (figure_of own.now) (figure_of delta.now)) }
+    ensures value { IfOk result
+        (λ t. figure_of t ≡ xor_of (figure_of own.now) (figure_of delta.now)) }
     ensures dim { IfOk result (λ t. t.dim ≡ own.now.dim) }
 
     // A change without cells changes nothing, and each other one does.
-    ensures same { IfOk result (λ t. cells delta.now.dim delta.now.rows ≡ [] → figure_of t ≡ figure_of own.now) }
-    ensures moves { IfOk result (λ t. ¬ (cells delta.now.dim delta.now.rows ≡ []) → same_figure (figure_of own.now) (figure_of t) ≡ false) }
+    ensures same { IfOk result
+        (λ t. cells delta.now.dim delta.now.rows ≡ [] → figure_of t ≡ figure_of own.now) }
+    ensures moves { IfOk result
+        (λ t. ¬ (cells delta.now.dim delta.now.rows ≡ [])
+        → same_figure (figure_of own.now) (figure_of t) ≡ false) }
 {
     let made = own.xor(alloc, delta.rows())?;
     Ok(made)
@@ -75,7 +79,8 @@ pub fn changed(alloc: Global, own: &Tiles, delta: &Solid) -> Result<Tiles, NoMem
 /// A Boolean of two solids, made anew. Takes memory for the rows of both, and for the answer.
 pub fn combine(alloc: Global, op: Op2, a: &Tiles, b: &Tiles) -> Result<Solid, NoMemory>
     requires { b.now.dim ≡ a.now.dim }
-    ensures value { IfOk result (λ s. figure_of s ≡ combine_of op (figure_of a.now) (figure_of b.now)) }
+    ensures value { IfOk result
+        (λ s. figure_of s ≡ combine_of op (figure_of a.now) (figure_of b.now)) }
     ensures dim { IfOk result (λ s. s.dim ≡ a.now.dim) }
 {
     let left = a.to_rows(alloc)?;
@@ -96,7 +101,10 @@ pub fn change(
     requires other { b.now.dim ≡ a.now.dim }
     requires left { da.now.dim ≡ a.now.dim }
     requires right { db.now.dim ≡ a.now.dim }
-    ensures carries { IfOk result (λ d. xor_of (combine_of op (figure_of a.now) (figure_of b.now)) (figure_of d) ≡ combine_of op (xor_of (figure_of a.now) (figure_of da.now)) (xor_of (figure_of b.now) (figure_of db.now))) }
+    ensures carries { IfOk result
+        (λ d. xor_of (combine_of op (figure_of a.now) (figure_of b.now)) (figure_of d)
+        ≡ combine_of op (xor_of (figure_of a.now) (figure_of da.now))
+        (xor_of (figure_of b.now) (figure_of db.now))) }
     ensures dim { IfOk result (λ d. d.dim ≡ a.now.dim) }
 {
     let made = evm_delta::delta2(alloc, op, a, da.rows(), b, db.rows())?;
