@@ -72,6 +72,9 @@ flat_of-firsts rs w = ap flat_of (sym (ones-firsts rs w)) ∙ flat_of-ones (firs
 pub left-flat : (flat : List ℤ) (w s : ℕ) → s + 1 ≡ w → length flat % w ≡ 0 → flat_of (rows_of flat w s) ≡ firsts (rows_of flat w s)
 left-flat flat w s one whole = flat_of-firsts (rows_of flat w s) (wide-one (w - s) (rows_of flat w s) (omega arith) (rows_of-wide flat w s (omega arith) whole))
 
+pub left-numbers : (flat : List ℤ) (w s : ℕ) → w ≡ 1 → s + 1 ≡ w → flat ≡ firsts (rows_of flat w s)
+left-numbers flat w s one e = let z : s ≡ 0 = omega arith in rw (one, z) (sym (firsts-numbers flat))
+
 pub below-more : (w : List ℤ) (i : ℕ) (low : ℤ) → rising int_lt w ≡ true → i < length w → get_or w i (pos 0) <ℤ low → list_all (λ y. int_lt y low) (take (i + 1) w) ≡ true
 below-more w i low a l m = ap (λ k. list_all (λ y. int_lt y low) (take k w)) (add-one i) ∙ all_lower w i low a l m
 

@@ -111,11 +111,17 @@ impl<'a> Line<'a> {
         }
     }
 
-    /// Appends the numbers that are left to `out`. Takes memory only where `out` has no room left. `NoMemory` is want of
-    /// memory, and `out` is gone then.
+    /// Appends the numbers that are left to `out`, as one where nothing stands between them. Takes memory only where `out`
+    /// has no room left. `NoMemory` is want of memory, and `out` is gone then.
+    #[inline(always)]
     pub fn append_left(&self, out: Vec<i32>) -> Result<Vec<i32>, NoMemory>
         ensures { IfOk result (λ v. v.items ≡ out.items ++ self.now.left) }
     {
+        if self.width == 1 {
+            let mut grown = out;
+            grown.extend_from_slice(self.flat)?;
+            return Ok(grown);
+        }
         let grown = append_rows(out, self.flat, self.width, self.skip)?;
         Ok(grown)
     }
