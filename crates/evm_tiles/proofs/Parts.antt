@@ -5,7 +5,7 @@ use Rattle.evm_cells.specs.Windows.{is_under, is_over}
 use Rattle.std.proofs.Common.{◌≡◌, ℕ, ◌<◌, ◌≤ℤ◌, Bool, true, false, List, [], length, ℤ, refl, sym, ap, ap₂, ◌∙◌, subst}
 use Rattle.std.specs.List.{list_all}
 use Rattle.std.proofs.lemmas.Bool.{true≢false}
-use Rattle.evm_cells.specs.Places.{same, before, has, ascending}
+use Rattle.evm_cells.specs.Places.{same, before, has}
 use Rattle.evm_cells.specs.Limits.{IsCellSet}
 use Rattle.evm_cells.specs.Booleans.{xor, xor_cells}
 use Rattle.evm_cells.specs.Shapes.{clip}
@@ -70,10 +70,6 @@ all-xor n t A B a b h k =
     at c false false e f m = absurd (true≢false (sym m ∙ ap₂ xor e f))
 
 -- ---- boxes
-
-pub none_is : (S : List (List ℤ)) → ascending S ≡ true → ((c : List ℤ) → has S c ≡ false) → S ≡ []
-unfolding has ascending
-none_is S a h = same_sets S [] a refl h
 
 pub xor_right_none : (n : ℕ) (S : List (List ℤ)) → IsCellSet n S → xor_cells n S [] ≡ S
 unfolding has
