@@ -1,8 +1,5 @@
 -- A box round the rows of a change holds its cells.
-use Rattle.std.proofs.Common.{◌≡◌, ℕ, zero, suc, ◌+◌, ◌<◌, ◌≤◌, ◌<ℤ◌, ◌≤ℤ◌, Bool, true, false, cond, ◌&&◌, ◌==◌, List, [], ◌∷◌, length, take, slice_set, ℤ, pos, int_le, int_lt, refl, sym, ap, ap₂, ◌∙◌, arith, subst, eqb-true}
-use Rattle.std.proofs.lemmas.Bool.{eqb-false}
-use Rattle.std.proofs.lemmas.Grind.{get_or-set_at}
-use Rattle.std.proofs.lemmas.List.{get_or-set_other}
+use Rattle.std.proofs.Common.{◌≡◌, ℕ, zero, suc, ◌<◌, ◌≤◌, ◌<ℤ◌, ◌≤ℤ◌, Bool, true, false, cond, ◌&&◌, List, [], ◌∷◌, length, take, ℤ, int_le, int_lt, refl, sym, ap, ap₂, ◌∙◌, arith}
 use Rattle.std.specs.List.{list_all}
 use Rattle.std.proofs.lemmas.Int.{ints as int_facts}
 use Rattle.evm_cells.specs.Places.{each, has}
@@ -19,7 +16,7 @@ use Rattle.evm_cells.proofs.Slices.{coord, all-coord}
 use Rattle.evm_cells.proofs.Sides.{rows_under, rows_over}
 use Rattle.evm_rows.specs.Rows.{Vertices}
 use Rattle.evm_tiles.proofs.Planes.{long}
-use Rattle.evm_delta.specs.Hulls.{IsLow, IsHigh, IsAround}
+use Rattle.evm_delta.specs.Hulls.{IsAround}
 
 -- ---- lists, coordinate by coordinate
 
@@ -137,21 +134,3 @@ either_point n false x y a b = b
 
 pub row_point : (n i : ℕ) (q : List ℤ) → i < n → is_point n q ≡ true → is_point_coord n (coord i q) ≡ true
 row_point n i q l h = let (e, b) = point_parts n q h in all-coord (is_point_coord n) i q (omega arith) b
-
--- an axis more
-pub around_none : (lo hi : List ℤ) (v : Vertices) → IsAround 0 lo hi v
-around_none lo hi v = record { low = λ i l. absurd (omega arith); high = λ i l. absurd (omega arith) }
-
-pub around_more : (k : ℕ) (x y : ℤ) (lo hi : List ℤ) (v : Vertices) → k < length lo → k < length hi → IsAround k lo hi v → IsLow k x v → IsHigh k y v → IsAround (k + 1) (slice_set lo k x) (slice_set hi k y) v
-around_more k x y lo hi v ll lh a low high = record {
-  low = λ i l. at_low i l (i == k) refl;
-  high = λ i l. at_high i l (i == k) refl;
-}
-  where
-    at_low : (i : ℕ) → i < k + 1 → (t : Bool) → (i == k) ≡ t → IsLow i (coord i (slice_set lo k x)) v
-    at_low i l true e = let f : i ≡ k = eqb-true i k e in subst (λ z. IsLow i z v) (sym (get_or-set_at lo k i x (pos 0) f ll)) (subst (λ (j : ℕ). IsLow j x v) (sym f) low)
-    at_low i l false e = let f = eqb-false i k e in subst (λ z. IsLow i z v) (sym (get_or-set_other lo k i x (pos 0) f)) (a.low i (omega (arith, f)))
-
-    at_high : (i : ℕ) → i < k + 1 → (t : Bool) → (i == k) ≡ t → IsHigh i (coord i (slice_set hi k y)) v
-    at_high i l true e = let f : i ≡ k = eqb-true i k e in subst (λ z. IsHigh i z v) (sym (get_or-set_at hi k i y (pos 0) f lh)) (subst (λ (j : ℕ). IsHigh j y v) (sym f) high)
-    at_high i l false e = let f = eqb-false i k e in subst (λ z. IsHigh i z v) (sym (get_or-set_other hi k i y (pos 0) f)) (a.high i (omega (arith, f)))
