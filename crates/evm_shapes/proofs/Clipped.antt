@@ -17,7 +17,6 @@ use Rattle.evm_cells.proofs.Places.{strict_places}
 use Rattle.evm_cells.proofs.Universe.{point_parts, xsum-same_place}
 use Rattle.evm_cells.proofs.Xor.{odd-count, and_first, and_second}
 use Rattle.evm_rows.specs.Rows.{rows_of, flat_of}
-use Rattle.evm_rows.proofs.Bridge.{wide-points}
 use Rattle.evm_rows.proofs.RowsOrder.{Wide, rows_of-flat_of, length-flat_of}
 use Rattle.evm_shapes.specs.Moves.{stays_in}
 
@@ -66,10 +65,10 @@ wide-clamped : (n : ℕ) (lo hi : List ℤ) (V : List (List ℤ)) → length lo 
 wide-clamped n lo hi [] e f w = tt
 wide-clamped n lo hi (p ∷ V) e f w = (let g = w.0 in length-clamped lo hi p (omega arith) (omega arith) ∙ e, wide-clamped n lo hi V e f w.1)
 
-pub clamped_rows : (n : ℕ) (lo hi : List ℤ) (V : List (List ℤ)) (flat : List ℤ) → 0 < n → length lo ≡ n → length hi ≡ n → IsVertexList n V → flat ≡ flat_of (map (clamped lo hi) V)
+pub clamped_rows : (n : ℕ) (lo hi : List ℤ) (V : List (List ℤ)) (flat : List ℤ) → 0 < n → length lo ≡ n → length hi ≡ n → Wide n V → flat ≡ flat_of (map (clamped lo hi) V)
     → (length flat % n ≡ 0) × (rows_of flat n 0 ≡ map (clamped lo hi) V)
-clamped_rows n lo hi V flat some e g v f =
-    let w : Wide n (map (clamped lo hi) V) = wide-clamped n lo hi V e g (wide-points n V v.points) in (
+clamped_rows n lo hi V flat some e g u f =
+    let w : Wide n (map (clamped lo hi) V) = wide-clamped n lo hi V e g u in (
       ap (λ (z : List ℤ). length z % n) f ∙ ap (λ (k : ℕ). k % n) (length-flat_of n (map (clamped lo hi) V) w) ∙ mul-mod_left (length (map (clamped lo hi) V)) n,
       ap (λ (z : List ℤ). rows_of z n 0) f ∙ rows_of-flat_of n (map (clamped lo hi) V) some w,
     )

@@ -6,4 +6,5 @@ pub mod Shifted
 pub mod Lone
 pub mod Clipped
 pub mod Missed
+pub mod Closing
 pub mod United

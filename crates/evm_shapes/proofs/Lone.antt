@@ -1,5 +1,5 @@
 -- Rows that cancel as they come.
-use Rattle.std.proofs.Common.{◌≡◌, ℕ, zero, suc, ◌+◌, ◌-◌, ◌<◌, ◌%◌, true, ◌==◌, List, [], ◌∷◌, ◌++◌, length, take, get_or, ℤ, refl, sym, ap, ◌∙◌, subst, arith, eqb-true, eq-eqb}
+use Rattle.std.proofs.Common.{Bool, ◌≡◌, ℕ, zero, suc, ◌+◌, ◌-◌, ◌<◌, ◌%◌, true, ◌==◌, List, [], ◌∷◌, ◌++◌, length, take, get_or, ℤ, refl, sym, ap, ◌∙◌, subst, arith, eqb-true, eq-eqb}
 use Rattle.std.specs.List.{list_all}
 use Rattle.std.specs.List.Sorted.{IsPermutation}
 use denote.Ref.{Bor}
@@ -17,28 +17,28 @@ use Rattle.evm_rows.proofs.RowsOrder.{Wide}
 use Rattle.evm_shapes.specs.Order.{unpaired, AreLone}
 use Rattle.evm_shapes.proofs.Sorted.{reduced_is}
 
--- how far the gathered rows are: with those that are left they have each place as often, by parity, as all
+-- how far the gathered rows are: each test holds of as many of them and of those that are left, by parity, as of all
 pub record Gathered (n : ℕ) (W R L : List (List ℤ)) : Type 0 where
   pub wide : list_all (λ p. length p == n) W ≡ true
-  pub odd_times : (p : List ℤ) → xor (xsum (λ q. same q p) W) (xsum (λ q. same q p) R) ≡ xsum (λ q. same q p) L
+  pub odd_times : (f : List ℤ → Bool) → xor (xsum f W) (xsum f R) ≡ xsum f L
 
 pub gathered_start : (n : ℕ) (bs : List (Bor (List ℤ))) (L : List (List ℤ)) → bs ≡ [] → Gathered n (targets bs) L L
 gathered_start n bs L e = record {
   wide = ap (λ z. list_all (λ p. length p == n) (targets z)) e;
-  odd_times = λ p. ap (λ z. xor (xsum (λ q. same q p) (targets z)) (xsum (λ q. same q p) L)) e ∙ ap (λ t. xor t (xsum (λ q. same q p) L)) (xsum-nil (λ (q : List ℤ). same q p)) ∙ false-xor (xsum (λ q. same q p) L);
+  odd_times = λ p. ap (λ z. xor (xsum p (targets z)) (xsum p L)) e ∙ ap (λ t. xor t (xsum p L)) (xsum-nil p) ∙ false-xor (xsum p L);
 }
 
-one : (p x : List ℤ) → xsum (λ (q : List ℤ). same q p) (x ∷ []) ≡ same x p
-one p x = xsum-cons (λ (q : List ℤ). same q p) x [] ∙ ap (xor (same x p)) (xsum-nil (λ (q : List ℤ). same q p)) ∙ xor-false (same x p)
+one : (p : List ℤ → Bool) (x : List ℤ) → xsum p (x ∷ []) ≡ p x
+one p x = xsum-cons p x [] ∙ ap (xor (p x)) (xsum-nil p) ∙ xor-false (p x)
 
 pub gathered_push : (n : ℕ) (bs cs : List (Bor (List ℤ))) (b : Bor (List ℤ)) (R rest L : List (List ℤ)) → cs ≡ bs ++ b ∷ [] → R ≡ b.now ∷ rest → length b.now ≡ n → Gathered n (targets bs) R L → Gathered n (targets cs) rest L
 gathered_push n bs cs b R rest L e r w g = record {
   wide = ap (list_all (λ p. length p == n)) (targets_push bs cs b e) ∙ all-append (λ (p : List ℤ). length p == n) (targets bs) (b.now ∷ []) ∙ and_both (list_all (λ p. length p == n) (targets bs)) (list_all (λ p. length p == n) (b.now ∷ [])) g.wide (and_both (length b.now == n) true (eq-eqb (length b.now) n w) refl);
   odd_times = λ p.
-      ap (λ z. xor (xsum (λ q. same q p) z) (xsum (λ q. same q p) rest)) (targets_push bs cs b e)
-      ∙ ap (λ t. xor t (xsum (λ q. same q p) rest)) (xsum-append (λ (q : List ℤ). same q p) (targets bs) (b.now ∷ []) ∙ ap (xor (xsum (λ q. same q p) (targets bs))) (one p b.now))
-      ∙ xor_assoc (xsum (λ q. same q p) (targets bs)) (same b.now p) (xsum (λ q. same q p) rest)
-      ∙ ap (xor (xsum (λ q. same q p) (targets bs))) (sym (xsum-cons (λ (q : List ℤ). same q p) b.now rest) ∙ ap (xsum (λ q. same q p)) (sym r))
+      ap (λ z. xor (xsum p z) (xsum p rest)) (targets_push bs cs b e)
+      ∙ ap (λ t. xor t (xsum p rest)) (xsum-append p (targets bs) (b.now ∷ []) ∙ ap (xor (xsum p (targets bs))) (one p b.now))
+      ∙ xor_assoc (xsum p (targets bs)) (p b.now) (xsum p rest)
+      ∙ ap (xor (xsum p (targets bs))) (sym (xsum-cons p b.now rest) ∙ ap (xsum p) (sym r))
       ∙ g.odd_times p;
 }
 
@@ -57,10 +57,10 @@ gathered_pop n bs cs k d row R rest L e c s r g =
     record {
       wide = and_first (list_all (λ p. length p == n) (targets cs)) (list_all (λ p. length p == n) (b.now ∷ [])) (sym (all-append (λ (p : List ℤ). length p == n) (targets cs) (b.now ∷ [])) ∙ ap (list_all (λ p. length p == n)) (sym t) ∙ g.wide);
       odd_times = λ p.
-          sym (ap (λ z. xor z (xsum (λ q. same q p) R)) (ap (xsum (λ q. same q p)) t ∙ xsum-append (λ (q : List ℤ). same q p) (targets cs) (b.now ∷ []) ∙ ap (xor (xsum (λ q. same q p) (targets cs))) (one p b.now ∙ ap (λ z. same z p) f))
-          ∙ ap (xor (xor (xsum (λ q. same q p) (targets cs)) (same row p))) (ap (xsum (λ q. same q p)) r ∙ xsum-cons (λ (q : List ℤ). same q p) row rest)
-          ∙ xor_assoc (xsum (λ q. same q p) (targets cs)) (same row p) (xor (same row p) (xsum (λ q. same q p) rest))
-          ∙ ap (xor (xsum (λ q. same q p) (targets cs))) (sym (xor_assoc (same row p) (same row p) (xsum (λ q. same q p) rest)) ∙ ap (λ z. xor z (xsum (λ q. same q p) rest)) (xor_self (same row p)) ∙ false-xor (xsum (λ q. same q p) rest)))
+          sym (ap (λ z. xor z (xsum p R)) (ap (xsum p) t ∙ xsum-append p (targets cs) (b.now ∷ []) ∙ ap (xor (xsum p (targets cs))) (one p b.now ∙ ap (λ z. p z) f))
+          ∙ ap (xor (xor (xsum p (targets cs)) (p row))) (ap (xsum p) r ∙ xsum-cons p row rest)
+          ∙ xor_assoc (xsum p (targets cs)) (p row) (xor (p row) (xsum p rest))
+          ∙ ap (xor (xsum p (targets cs))) (sym (xor_assoc (p row) (p row) (xsum p rest)) ∙ ap (λ z. xor z (xsum p rest)) (xor_self (p row)) ∙ false-xor (xsum p rest)))
           ∙ g.odd_times p;
     }
 
@@ -68,9 +68,9 @@ pub gathered_end : (n : ℕ) (W R L : List (List ℤ)) → R ≡ [] → Gathered
 gathered_end n W R L e g = record {
   wide = g.wide;
   odd_times = λ p.
-      odd-count (λ (q : List ℤ). same q p) W
-      ∙ sym (xor-false (xsum (λ q. same q p) W)) ∙ ap (xor (xsum (λ q. same q p) W)) (sym (ap (xsum (λ q. same q p)) e ∙ xsum-nil (λ (q : List ℤ). same q p)))
-      ∙ g.odd_times p ∙ sym (odd-count (λ (q : List ℤ). same q p) L);
+      odd-count p W
+      ∙ sym (xor-false (xsum p W)) ∙ ap (xor (xsum p W)) (sym (ap (xsum p) e ∙ xsum-nil p))
+      ∙ g.odd_times p ∙ sym (odd-count p L);
 }
 
 from_wide : (n : ℕ) (S : List (List ℤ)) → list_all (λ p. length p == n) S ≡ true → Wide n S
@@ -84,5 +84,5 @@ lone_is n L bs cs flat some a h s f =
     let less : n ≡ n - 0 = omega arith in
     let all = reduced_is n (targets bs) bs cs flat some (subst (λ (k : ℕ). Wide k (targets bs)) less (from_wide n (targets bs) a.wide)) refl h s f in (
       all.0,
-      record { ascends = all.1.ascends; wide = all.1.wide; odd_times = λ p. all.1.odd_times p ∙ a.odd_times p },
+      record { ascends = all.1.ascends; wide = all.1.wide; odd_times = λ p. all.1.odd_times p ∙ a.odd_times (λ q. same q p) },
     )

@@ -31,7 +31,7 @@ first_le (x ∷ p) (y ∷ q) l m b =
     (or_cases (int_lt x y) (int_eq x y && before p q) b)
 
 -- no row is below the first
-from_first : (n : ℕ) (V : List (List ℤ)) (at : ℤ) → 0 < n → Wide n V → ascending V ≡ true → at ≤ℤ get_or (get_or V 0 []) 0 (pos 0) → list_all (λ q. int_le at (get_or q 0 (pos 0))) V ≡ true
+pub from_first : (n : ℕ) (V : List (List ℤ)) (at : ℤ) → 0 < n → Wide n V → ascending V ≡ true → at ≤ℤ get_or (get_or V 0 []) 0 (pos 0) → list_all (λ q. int_le at (get_or q 0 (pos 0))) V ≡ true
 unfolding ascending
 from_first n [] at some w a l = refl
 from_first n (p ∷ V) at some w a l =

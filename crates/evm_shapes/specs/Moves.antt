@@ -1,5 +1,5 @@
 -- Moves of a row, and rows up to a height. Axes are counted from 0.
-use Rattle.std.specs.Prelude.{ℕ, ◌+◌, ◌<◌, ◌≤◌, Bool, ℤ, pos, int_le, List, map, filter, get_or, swap}
+use Rattle.std.specs.Prelude.{ℕ, ◌+◌, ◌<◌, ◌≤◌, Bool, ℤ, pos, int_le, int_lt, List, [], ◌∷◌, map, filter, get_or, swap, if◌then◌else◌}
 use Rattle.evm_cells.specs.Places.{same, without, with_at}
 use Rattle.evm_cells.specs.Shapes.{negated, fronted}
 use Rattle.evm_cells.specs.Windows.{clamped}
@@ -34,3 +34,17 @@ up_to i k V = map (without i) (filter (λ q. int_le (get_or q i (pos 0)) k) V)
 -- a row that is moved into the box from lo to hi stays where it is
 abbrev pub stays_in : List ℤ → List ℤ → List ℤ → Bool
 stays_in lo hi p = same (clamped lo hi p) p
+
+-- the rows before the first that is not below the height h on the first axis
+unfoldable pub low_rows : ℤ → List (List ℤ) → List (List ℤ)
+low_rows h [] = []
+low_rows h (p ∷ V) = if int_lt (get_or p 0 (pos 0)) h then p ∷ low_rows h V else []
+
+-- a row, put at the height h on the first axis
+abbrev pub raised : ℤ → List ℤ → List ℤ
+raised h p = h ∷ without 0 p
+
+-- each row, and after it the row that is put at the height h
+unfoldable pub closed : ℤ → List (List ℤ) → List (List ℤ)
+closed h [] = []
+closed h (p ∷ V) = p ∷ raised h p ∷ closed h V

@@ -1,15 +1,17 @@
 // What is inside a box, by rows that are moved into it.
-ghost use Rattle.std.specs.Prelude.{◌≡◌, [], ◌++◌, length, map, true, IfOk, OnOk};
+ghost use Rattle.std.specs.Prelude.{◌≡◌, [], ◌++◌, ◌%◌, length, map, get_or, pos, true, IfOk, OnOk};
 ghost use Rattle.std.specs.List.{list_all};
 ghost use Rattle.evm_cells.specs.Boxes.{is_box};
 ghost use Rattle.evm_cells.specs.Vertices.{evm};
 ghost use Rattle.evm_cells.specs.Windows.{between, clamped};
-ghost use Rattle.evm_rows.specs.Rows.{flat_of, cells_of};
+ghost use Rattle.evm_rows.specs.Groups.{targets};
+ghost use Rattle.evm_rows.specs.Rows.{rows_of, flat_of, cells_of};
 ghost use Rattle.evm_rows.specs.View.{vertices_of};
 ghost use Rattle.evm_shapes.specs.Shapes.{clipped_cells};
-ghost use Rattle.evm_shapes.specs.Moves.{stays_in};
+ghost use Rattle.evm_shapes.specs.Moves.{closed, low_rows, raised, stays_in};
+ghost use Rattle.evm_shapes.specs.Order.{AreMoved};
 
-use crate::order::reduced;
+use crate::order::{lone_rows, reduced};
 use evm_rows::{NoMemory, Rows, Solid, own, split_row};
 use std::alloc::{AllocError, Global};
 
@@ -61,6 +63,51 @@ fn append_all_clamped(
     Ok(())
 }
 
+// Appends each row below the upper end on the first axis, moved into the box.
+fn append_low_clamped(
+    out: &mut Vec<i32>,
+    a: Rows<'_>,
+    lo: &[i32],
+    hi: &[i32],
+) -> Result<(), AllocError>
+    requires low { length lo.now ≡ (vertices_of a).dim }
+    requires high { length hi.now ≡ (vertices_of a).dim }
+    ensures { OnOk result (out.new.items ≡ out.old.items ++ flat_of (map (clamped lo.now hi.now) (low_rows (get_or hi.now 0 (pos 0)) (vertices_of a.entry).rows))) }
+{
+    let mut left = a.flat;
+    while left.len() != 0 {
+        let (row, rest) = split_row(left, a.width, a.skip);
+        if hi[0] <= row[0] {
+            return Ok(());
+        }
+        append_clamped(out, row, lo, hi)?;
+        left = rest;
+    }
+    Ok(())
+}
+
+// Appends the row, put at a height on the first axis.
+fn append_raised(out: &mut Vec<i32>, row: &[i32], at: i32) -> Result<(), AllocError>
+    ensures { OnOk result (out.new.items ≡ out.old.items ++ raised at row.now) }
+{
+    out.push(at)?;
+    if row.len() != 0 {
+        out.extend_from_slice(&row[1..])?;
+    }
+    Ok(())
+}
+
+// Appends each row, and after it the row that is put at a height.
+fn append_closed(out: &mut Vec<i32>, rows: &[&[i32]], at: i32) -> Result<(), AllocError>
+    ensures { OnOk result (out.new.items ≡ out.old.items ++ flat_of (closed at (targets rows.now))) }
+{
+    for i in 0..rows.len() {
+        out.extend_from_slice(rows[i])?;
+        append_raised(out, rows[i], at)?;
+    }
+    Ok(())
+}
+
 // Whether the box, with its upper ends, has the point, so that it is moved nowhere.
 fn stays(row: &[i32], lo: &[i32], hi: &[i32]) -> bool
     requires low { length lo.now ≡ length row.now }
@@ -108,6 +155,55 @@ fn misses(a: Rows<'_>, lo: &[i32], hi: &[i32]) -> bool
     hi[0] <= a.coord(0, 1)
 }
 
+// The rows, moved into the box, that then stand an odd number of times.
+fn moved_rows(alloc: Global, a: Rows<'_>, lo: &[i32], hi: &[i32]) -> Result<Vec<i32>, AllocError>
+    requires { is_box (vertices_of a).dim lo.now hi.now ≡ true }
+    ensures whole { IfOk result (λ v. length v.items % (vertices_of a.entry).dim ≡ 0) }
+    ensures rows { IfOk result (λ v. AreMoved lo.now hi.now (vertices_of a.entry) (rows_of v.items (vertices_of a.entry).dim 0)) }
+{
+    let dim = a.dim();
+    let mut moved = Vec::with_capacity(alloc, a.flat.len())?;
+    append_all_clamped(&mut moved, a, lo, hi)?;
+    let flat = reduced(alloc, moved.as_slice(), dim)?;
+    Ok(flat)
+}
+
+// The same rows. Those at or above the upper end on the first axis are not read: each line along that axis has an even
+// number of rows, so they come to as many there as those below it do.
+fn closed_rows(alloc: Global, a: Rows<'_>, lo: &[i32], hi: &[i32]) -> Result<Vec<i32>, AllocError>
+    requires { is_box (vertices_of a).dim lo.now hi.now ≡ true }
+    ensures whole { IfOk result (λ v. length v.items % (vertices_of a.entry).dim ≡ 0) }
+    ensures rows { IfOk result (λ v. AreMoved lo.now hi.now (vertices_of a.entry) (rows_of v.items (vertices_of a.entry).dim 0)) }
+{
+    let dim = a.dim();
+    let mut low = Vec::with_capacity(alloc, a.flat.len())?;
+    append_low_clamped(&mut low, a, lo, hi)?;
+    let few = lone_rows(alloc, low.as_slice(), dim)?;
+    let mut all = Vec::with_capacity(alloc, few.len().saturating_mul(dim))?;
+    append_closed(&mut all, few.as_slice(), hi[0])?;
+    let flat = reduced(alloc, all.as_slice(), dim)?;
+    Ok(flat)
+}
+
+// Whether the last row is below a height on the first axis: a choice of speed alone.
+fn ends_below(a: Rows<'_>, at: i32) -> bool {
+    let count = a.len();
+    count == 0 || a.coord(count - 1, 1) < at
+}
+
+// The same rows, the shorter way.
+fn rows_inside(alloc: Global, a: Rows<'_>, lo: &[i32], hi: &[i32]) -> Result<Vec<i32>, AllocError>
+    requires { is_box (vertices_of a).dim lo.now hi.now ≡ true }
+    ensures whole { IfOk result (λ v. length v.items % (vertices_of a.entry).dim ≡ 0) }
+    ensures rows { IfOk result (λ v. AreMoved lo.now hi.now (vertices_of a.entry) (rows_of v.items (vertices_of a.entry).dim 0)) }
+{
+    if ends_below(a, hi[0]) {
+        moved_rows(alloc, a, lo, hi)
+    } else {
+        closed_rows(alloc, a, lo, hi)
+    }
+}
+
 /// The cells in the box from `lo` up to, but not at, `hi` on each axis, which has a length on each axis and ends within the
 /// limits. Its rows are the rows of the solid, each coordinate moved into the box, that then stand an odd number of times.
 /// Takes memory for the rows once, for a reference a row, and for the answer.
@@ -128,8 +224,6 @@ pub fn clip(alloc: Global, a: Rows<'_>, lo: &[i32], hi: &[i32]) -> Result<Solid,
         return Ok(solid);
     }
     let dim = a.dim();
-    let mut moved = Vec::with_capacity(alloc, a.flat.len())?;
-    append_all_clamped(&mut moved, a, lo, hi)?;
-    let flat = reduced(alloc, moved.as_slice(), dim)?;
+    let flat = rows_inside(alloc, a, lo, hi)?;
     Ok(Solid::from_rows(dim, flat))
 }

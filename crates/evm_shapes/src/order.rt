@@ -8,9 +8,13 @@ ghost use Rattle.evm_shapes.specs.Order.{starts_pair, unpaired, AreLone};
 use evm_rows::split_row;
 use std::alloc::{AllocError, Global};
 
-// The rows of `flat`, each of `width` numbers, borrowed: a row that equals the last one that is left takes that away, so
-// that few are sorted.
-fn lone_rows(alloc: Global, flat: &[i32], width: usize) -> Result<Vec<&[i32]>, AllocError>
+/// The rows of `flat`, each of `width` numbers, borrowed: a row that equals the last one that is left takes that away, so
+/// that few are sorted.
+pub(crate) fn lone_rows(
+    alloc: Global,
+    flat: &[i32],
+    width: usize,
+) -> Result<Vec<&[i32]>, AllocError>
     requires some { 0 < width }
     requires narrow { width ≤ 6 }
     requires whole { length flat.now % width ≡ 0 }

@@ -1,14 +1,12 @@
-use Rattle.std.proofs.Common.{refl, ◌≡◌, ◌-◌, ◌%◌, ◌++◌, ℤ, List, ℕ, length, map, ap, sym, ◌∙◌, arith, subst}
+use Rattle.std.proofs.Common.{refl, ◌≡◌, ◌-◌, ℤ, List, ℕ, ap, sym, ◌∙◌, arith}
 use Rattle.evm_cells.specs.Vertices.{evm, cells}
 use Rattle.evm_cells.specs.Shapes.{clip}
-use Rattle.evm_rows.specs.Rows.{rows_of, flat_of}
-use Rattle.evm_cells.specs.Windows.{IsReduced}
+use Rattle.evm_rows.specs.Rows.{rows_of}
 use Rattle.evm_cells.proofs.Layers.{evm-empty}
 use Rattle.evm_cells.proofs.Insides.{box_lengths, cell_set-clip}
 use Rattle.evm_shapes.proofs.Shaped.{are_rows_of, cells_of}
-use Rattle.evm_cells.specs.Windows.{clamped}
 use Rattle.evm_cells.proofs.Clamping.{clip_by_rows}
-use Rattle.evm_shapes.proofs.Clipped.{clamped_rows, all_inside}
+use Rattle.evm_shapes.proofs.Clipped.{all_inside}
 use Rattle.evm_shapes.proofs.clips.clip.Goals as goal
 
 pub all_stay-requires-clause-low : goal.all_stay-requires-clause-low
@@ -36,24 +34,6 @@ returns-then-all_stay-clause-cells c =
     let e = c.in_ok-solid.ensures.rows ∙ all_inside n c.args.lo.now c.args.hi.now V c.requires a.vertices (sym c.if-all_stay.ensures) in
     cells_of _ n _ _ c.in_ok-solid.ensures.dim (cell_set-clip n c.args.lo.now c.args.hi.now (cells n V)) e
 
-pub append_all_clamped-requires-clause-low : goal.append_all_clamped-requires-clause-low
-append_all_clamped-requires-clause-low c = (box_lengths (c.args.a.width - c.args.a.skip) c.args.lo.now c.args.hi.now c.requires).0
-
-pub append_all_clamped-requires-clause-high : goal.append_all_clamped-requires-clause-high
-append_all_clamped-requires-clause-high c = (box_lengths (c.args.a.width - c.args.a.skip) c.args.lo.now c.args.hi.now c.requires).1
-
-pub reduced-requires-clause-whole : goal.reduced-requires-clause-whole
-reduced-requires-clause-whole c =
-    let a = c.args.a in
-    let n : ℕ = a.width - a.skip in
-    let lo = c.args.lo.now in
-    let hi = c.args.hi.now in
-    let V : List (List ℤ) = rows_of a.flat.now a.width a.skip in
-    let l = box_lengths n lo hi c.requires in
-    let written : c.as_slice.result.now ≡ flat_of (map (clamped lo hi) V) =
-    c.as_slice.ensures.value ∙ c.in_ok-append_all_clamped.ensures ∙ ap (λ (u : List ℤ). u ++ flat_of (map (clamped lo hi) V)) c.in_ok-moved.ensures.items in
-    rw c.dim-dim.ensures ((clamped_rows n lo hi V _ (omega (arith, a.left)) l.0 l.1 a.vertices written).0)
-
 pub from_rows-requires : goal.from_rows-requires
 from_rows-requires c =
     let a = c.args.a in
@@ -61,15 +41,8 @@ from_rows-requires c =
     let lo = c.args.lo.now in
     let hi = c.args.hi.now in
     let V : List (List ℤ) = rows_of a.flat.now a.width a.skip in
-    let l = box_lengths n lo hi c.requires in
-    let written : c.as_slice.result.now ≡ flat_of (map (clamped lo hi) V) =
-    c.as_slice.ensures.value ∙ c.in_ok-append_all_clamped.ensures ∙ ap (λ (u : List ℤ). u ++ flat_of (map (clamped lo hi) V)) c.in_ok-moved.ensures.items in
-    let moved = clamped_rows n lo hi V _ (omega (arith, a.left)) l.0 l.1 a.vertices written in
-    let r : IsReduced n (rows_of c.as_slice.result.now n 0) (rows_of c.in_ok-flat.flat.items n 0) = rw c.dim-dim.ensures at c.in_ok-flat.ensures.rows in
-    let e : rows_of c.in_ok-flat.flat.items n 0 ≡ evm n (clip n lo hi (cells n V)) =
-    clip_by_rows n lo hi V (rows_of c.in_ok-flat.flat.items n 0) c.requires a.vertices (subst (λ (L : List (List ℤ)). IsReduced n L (rows_of c.in_ok-flat.flat.items n 0)) moved.1 r) in
-    let whole : length c.in_ok-flat.flat.items % n ≡ 0 = rw c.dim-dim.ensures at c.in_ok-flat.ensures.whole in
-    rw c.dim-dim.ensures (are_rows_of n _ _ (omega (arith, a.left)) (omega (arith, a.narrow)) whole (cell_set-clip n lo hi (cells n V)) e)
+    let e : rows_of c.in_ok-flat.flat.items n 0 ≡ evm n (clip n lo hi (cells n V)) = clip_by_rows n lo hi V (rows_of c.in_ok-flat.flat.items n 0) c.requires a.vertices c.in_ok-flat.ensures.rows in
+    rw c.dim-dim.ensures (are_rows_of n _ _ (omega (arith, a.left)) (omega (arith, a.narrow)) c.in_ok-flat.ensures.whole (cell_set-clip n lo hi (cells n V)) e)
 
 pub returns-clause-rows : goal.returns-clause-rows
 returns-clause-rows c =
@@ -78,13 +51,7 @@ returns-clause-rows c =
     let lo = c.args.lo.now in
     let hi = c.args.hi.now in
     let V : List (List ℤ) = rows_of a.flat.now a.width a.skip in
-    let l = box_lengths n lo hi c.requires in
-    let written : c.as_slice.result.now ≡ flat_of (map (clamped lo hi) V) =
-    c.as_slice.ensures.value ∙ c.in_ok-append_all_clamped.ensures ∙ ap (λ (u : List ℤ). u ++ flat_of (map (clamped lo hi) V)) c.in_ok-moved.ensures.items in
-    let moved = clamped_rows n lo hi V _ (omega (arith, a.left)) l.0 l.1 a.vertices written in
-    let r : IsReduced n (rows_of c.as_slice.result.now n 0) (rows_of c.in_ok-flat.flat.items n 0) = rw c.dim-dim.ensures at c.in_ok-flat.ensures.rows in
-    let e : rows_of c.in_ok-flat.flat.items n 0 ≡ evm n (clip n lo hi (cells n V)) =
-    clip_by_rows n lo hi V (rows_of c.in_ok-flat.flat.items n 0) c.requires a.vertices (subst (λ (L : List (List ℤ)). IsReduced n L (rows_of c.in_ok-flat.flat.items n 0)) moved.1 r) in
+    let e : rows_of c.in_ok-flat.flat.items n 0 ≡ evm n (clip n lo hi (cells n V)) = clip_by_rows n lo hi V (rows_of c.in_ok-flat.flat.items n 0) c.requires a.vertices c.in_ok-flat.ensures.rows in
     c.from_rows.ensures.rows ∙ ap (λ (m : ℕ). rows_of c.in_ok-flat.flat.items m 0) c.dim-dim.ensures ∙ e
 
 pub returns-clause-cells : goal.returns-clause-cells
@@ -94,12 +61,5 @@ returns-clause-cells c =
     let lo = c.args.lo.now in
     let hi = c.args.hi.now in
     let V : List (List ℤ) = rows_of a.flat.now a.width a.skip in
-    let l = box_lengths n lo hi c.requires in
-    let written : c.as_slice.result.now ≡ flat_of (map (clamped lo hi) V) =
-    c.as_slice.ensures.value ∙ c.in_ok-append_all_clamped.ensures ∙ ap (λ (u : List ℤ). u ++ flat_of (map (clamped lo hi) V)) c.in_ok-moved.ensures.items in
-    let moved = clamped_rows n lo hi V _ (omega (arith, a.left)) l.0 l.1 a.vertices written in
-    let r : IsReduced n (rows_of c.as_slice.result.now n 0) (rows_of c.in_ok-flat.flat.items n 0) = rw c.dim-dim.ensures at c.in_ok-flat.ensures.rows in
-    let e : c.from_rows.result.rows ≡ evm n (clip n lo hi (cells n V)) =
-    c.from_rows.ensures.rows ∙ ap (λ (m : ℕ). rows_of c.in_ok-flat.flat.items m 0) c.dim-dim.ensures
-    ∙ clip_by_rows n lo hi V (rows_of c.in_ok-flat.flat.items n 0) c.requires a.vertices (subst (λ (L : List (List ℤ)). IsReduced n L (rows_of c.in_ok-flat.flat.items n 0)) moved.1 r) in
-    cells_of _ n _ _ (c.from_rows.ensures.dim ∙ c.dim-dim.ensures) (cell_set-clip n lo hi (cells n V)) e
+    let e : rows_of c.in_ok-flat.flat.items n 0 ≡ evm n (clip n lo hi (cells n V)) = clip_by_rows n lo hi V (rows_of c.in_ok-flat.flat.items n 0) c.requires a.vertices c.in_ok-flat.ensures.rows in
+    cells_of _ n _ _ (c.from_rows.ensures.dim ∙ c.dim-dim.ensures) (cell_set-clip n lo hi (cells n V)) (c.from_rows.ensures.rows ∙ ap (λ (m : ℕ). rows_of c.in_ok-flat.flat.items m 0) c.dim-dim.ensures ∙ e)
