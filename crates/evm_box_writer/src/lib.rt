@@ -48,7 +48,8 @@ fn put_head(text: &mut Vec<u8>, dim: usize) -> Result<(), NoMemory>
 
 /// Appends the lines of boxes.
 fn put_boxes(text: &mut Vec<u8>, boxes: &Boxes) -> Result<(), NoMemory>
-    ensures { OnOk result (text.new.items ≡ text.old.items ++ text_of (map box_line boxes.now.boxes)) }
+    ensures { OnOk result
+        (text.new.items ≡ text.old.items ++ text_of (map box_line boxes.now.boxes)) }
 {
     for index in 0..boxes.len() {
         let (lo, hi) = boxes.ends(index);
@@ -60,7 +61,9 @@ fn put_boxes(text: &mut Vec<u8>, boxes: &Boxes) -> Result<(), NoMemory>
 /// Appends the line of a box.
 fn put_box(text: &mut Vec<u8>, lo: &[i32], hi: &[i32]) -> Result<(), NoMemory>
     requires { 0 < length lo.now }
-    ensures { OnOk result (text.new.items ≡ text.old.items ++ (box_line (record { lo = lo.now; hi = hi.now }) ++ 10 ∷ [])) }
+    ensures { OnOk result
+        (text.new.items ≡ text.old.items
+        ++ (box_line (record { lo = lo.now; hi = hi.now }) ++ 10 ∷ [])) }
 {
     put_number(text, lo[0])?;
     put_numbers(text, &lo[1..])?;
@@ -79,7 +82,8 @@ fn put_number(text: &mut Vec<u8>, number: i32) -> Result<(), NoMemory>
 /// Appends each number with a space before it.
 #[tactic(auto, using(evm_script::proofs::Spaced::numbers_more))]
 fn put_numbers(text: &mut Vec<u8>, numbers: &[i32]) -> Result<(), NoMemory>
-    ensures { OnOk result (text.new.items ≡ text.old.items ++ flat_map (λ n. 32 ∷ signed_decimal n) numbers.now) }
+    ensures { OnOk result
+        (text.new.items ≡ text.old.items ++ flat_map (λ n. 32 ∷ signed_decimal n) numbers.now) }
 {
     for number in numbers {
         text.push(b' ')?;

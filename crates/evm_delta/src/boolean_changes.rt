@@ -21,7 +21,9 @@ fn left_near(
 ) -> Result<Solid, NoMemory>
     requires other { b.now.dim ≡ (vertices_of da).dim }
     requires right { (vertices_of db).dim ≡ (vertices_of da).dim }
-    ensures { IfOk result (λ s. s ≡ left_change op (vertices_of da.entry) (after_change b.now (vertices_of db.entry))) }
+    ensures { IfOk result
+        (λ s. s ≡ left_change op (vertices_of da.entry)
+        (after_change b.now (vertices_of db.entry))) }
 {
     if da.len() == 0 {
         let none = Solid::empty(alloc, da.dim());
@@ -68,11 +70,14 @@ pub fn delta2(
     requires left { (vertices_of da).dim ≡ a.now.dim }
     requires other { b.now.dim ≡ a.now.dim }
     requires right { (vertices_of db).dim ≡ a.now.dim }
-    ensures vertices { IfOk result (λ s. s ≡ change_vertices op a.now (vertices_of da.entry) b.now (vertices_of db.entry)) }
-    ensures cells { IfOk result (λ s. IsChange op a.now (vertices_of da.entry) b.now (vertices_of db.entry) s) }
+    ensures vertices { IfOk result
+        (λ s. s ≡ change_vertices op a.now (vertices_of da.entry) b.now (vertices_of db.entry)) }
+    ensures cells { IfOk result
+        (λ s. IsChange op a.now (vertices_of da.entry) b.now (vertices_of db.entry) s) }
 
     // The value before becomes the value after.
-    ensures carries { IfOk result (λ s. Carries op a.now (vertices_of da.entry) b.now (vertices_of db.entry) s) }
+    ensures carries { IfOk result
+        (λ s. Carries op a.now (vertices_of da.entry) b.now (vertices_of db.entry) s) }
 {
     if op == Op2::Xor {
         let made = xor(alloc, da, db)?;

@@ -62,7 +62,8 @@ pub fn delta1(alloc: Global, op: &Op1, a: &Tiles, da: Rows<'_>) -> Result<Solid,
 
     // The shape before becomes the shape after.
     ensures carries { IfOk result (λ s. CarriesShape op.now a.now (vertices_of da.entry) s) }
-    ensures range { IsErrOf result DeltaError.Range ↔ (in_range op.now a.now.dim (changed_cells a.now (vertices_of da.entry)) ≡ false) }
+    ensures range { IsErrOf result DeltaError.Range
+        ↔ (in_range op.now a.now.dim (changed_cells a.now (vertices_of da.entry)) ≡ false) }
 {
     if da.len() == 0 {
         return Ok(Solid::empty(alloc, dim_of(op, da.dim())));

@@ -65,9 +65,13 @@ impl From<ShapeError> for DeltaError {
 // The cells in the box whose corners the numbers state.
 fn clipped(alloc: Global, a: Rows<'_>, corners: &Nums) -> Result<Solid, NoMemory>
     requires both { length corners.now ≡ 2 * (vertices_of a).dim }
-    requires is_box { is_box (vertices_of a).dim (take (vertices_of a).dim corners.now) (drop (vertices_of a).dim corners.now) ≡ true }
+    requires is_box { is_box (vertices_of a).dim (take (vertices_of a).dim corners.now)
+        (drop (vertices_of a).dim corners.now) ≡ true }
     ensures dim { IfOk result (λ s. s.dim ≡ (vertices_of a.entry).dim) }
-    ensures rows { IfOk result (λ s. s.rows ≡ evm (vertices_of a.entry).dim (clip (vertices_of a.entry).dim (take (vertices_of a.entry).dim corners.now) (drop (vertices_of a.entry).dim corners.now) (cells_of (vertices_of a.entry)))) }
+    ensures rows { IfOk result
+        (λ s. s.rows ≡ evm (vertices_of a.entry).dim
+        (clip (vertices_of a.entry).dim (take (vertices_of a.entry).dim corners.now)
+        (drop (vertices_of a.entry).dim corners.now) (cells_of (vertices_of a.entry)))) }
 {
     let dim = a.dim();
     let limit = limit(dim);
@@ -89,8 +93,11 @@ pub fn shape(alloc: Global, op: &Op1, a: Rows<'_>) -> Result<Solid, DeltaError>
     requires { Fits op.now (vertices_of a).dim }
     ensures vertices { IfOk result (λ s. s ≡ shape_vertices op.now (vertices_of a.entry)) }
     ensures dim { IfOk result (λ s. s.dim ≡ op1_dim op.now (vertices_of a.entry).dim) }
-    ensures cells { IfOk result (λ s. cells_of s ≡ op1_cells op.now (vertices_of a.entry).dim (cells_of (vertices_of a.entry))) }
-    ensures range { IsErrOf result DeltaError.Range ↔ (in_range op.now (vertices_of a.entry).dim (cells_of (vertices_of a.entry)) ≡ false) }
+    ensures cells { IfOk result
+        (λ s. cells_of s
+        ≡ op1_cells op.now (vertices_of a.entry).dim (cells_of (vertices_of a.entry))) }
+    ensures range { IsErrOf result DeltaError.Range
+        ↔ (in_range op.now (vertices_of a.entry).dim (cells_of (vertices_of a.entry)) ≡ false) }
 {
     match op {
         Op1::Shift(by) => Ok(shift(alloc, a, by.values())?),

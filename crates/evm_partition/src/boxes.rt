@@ -56,7 +56,9 @@ impl Boxes {
     /// The two ends of a box, counted from 0: its lower corner and its upper corner, borrowed. Takes no memory.
     pub fn ends(&self, index: usize) -> (&[i32], &[i32])
         requires { index < length self.now.boxes }
-        ensures ends { (d : Ends) → slice_index_or self.now.boxes index d ≡ record { lo = result.0.now; hi = result.1.now } }
+        ensures ends { (d : Ends)
+            → slice_index_or self.now.boxes index d
+            ≡ record { lo = result.0.now; hi = result.1.now } }
         ensures is_box { IsBox self.now.dim result.0.now result.1.now }
         ensures some { 0 < length result.0.now }
     {
@@ -104,7 +106,8 @@ impl Front {
     // Appends the box with these ends.
     pub(crate) fn append_to(&self, out: &mut Vec<i32>) -> Result<(), AllocError>
         requires { self.now.depth ≤ 6 }
-        ensures { OnOk result (out.new.items ≡ out.old.items ++ numbers_of (front_of self.now ∷ [])) }
+        ensures { OnOk result
+            (out.new.items ≡ out.old.items ++ numbers_of (front_of self.now ∷ [])) }
     {
         out.extend_from_slice(&self.lo[..self.depth])?;
         out.extend_from_slice(&self.hi[..self.depth])?;

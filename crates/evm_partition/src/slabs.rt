@@ -32,7 +32,8 @@ fn append_boxes(
     out: &mut Vec<i32>,
 ) -> Result<(), NoMemory>
     requires { front.depth + (vertices_of a).dim ≤ 6 }
-    ensures { OnOk result (out.new.items ≡ out.old.items ++ numbers_after (front_of front) (vertices_of a.entry)) }
+    ensures { OnOk result
+        (out.new.items ≡ out.old.items ++ numbers_after (front_of front) (vertices_of a.entry)) }
 {
     if a.dim() == 1 {
         append_runs(a, front, out)?;
@@ -50,7 +51,8 @@ fn append_boxes(
 fn append_runs(a: Rows<'_>, front: Front, out: &mut Vec<i32>) -> Result<(), AllocError>
     requires line { (vertices_of a).dim ≡ 1 }
     requires depth { front.depth + 1 ≤ 6 }
-    ensures { OnOk result (out.new.items ≡ out.old.items ++ numbers_after (front_of front) (vertices_of a.entry)) }
+    ensures { OnOk result
+        (out.new.items ≡ out.old.items ++ numbers_after (front_of front) (vertices_of a.entry)) }
 {
     let mut marks = Marks::of(a);
     while let Some(low) = marks.height() {

@@ -72,7 +72,10 @@ fn append_low_clamped(
 ) -> Result<(), AllocError>
     requires low { length lo.now ≡ (vertices_of a).dim }
     requires high { length hi.now ≡ (vertices_of a).dim }
-    ensures { OnOk result (out.new.items ≡ out.old.items ++ flat_of (map (clamped lo.now hi.now) (low_rows (get_or hi.now 0 (pos 0)) (vertices_of a.entry).rows))) }
+    ensures { OnOk result
+        (out.new.items ≡ out.old.items
+        ++ flat_of (map (clamped lo.now hi.now)
+        (low_rows (get_or hi.now 0 (pos 0)) (vertices_of a.entry).rows))) }
 {
     let mut left = a.flat;
     while left.len() != 0 {
@@ -99,7 +102,8 @@ fn append_raised(out: &mut Vec<i32>, row: &[i32], at: i32) -> Result<(), AllocEr
 
 // Appends each row, and after it the row that is put at a height.
 fn append_closed(out: &mut Vec<i32>, rows: &[&[i32]], at: i32) -> Result<(), AllocError>
-    ensures { OnOk result (out.new.items ≡ out.old.items ++ flat_of (closed at (targets rows.now))) }
+    ensures { OnOk result
+        (out.new.items ≡ out.old.items ++ flat_of (closed at (targets rows.now))) }
 {
     for i in 0..rows.len() {
         out.extend_from_slice(rows[i])?;
@@ -159,7 +163,9 @@ fn misses(a: Rows<'_>, lo: &[i32], hi: &[i32]) -> bool
 fn moved_rows(alloc: Global, a: Rows<'_>, lo: &[i32], hi: &[i32]) -> Result<Vec<i32>, AllocError>
     requires { is_box (vertices_of a).dim lo.now hi.now ≡ true }
     ensures whole { IfOk result (λ v. length v.items % (vertices_of a.entry).dim ≡ 0) }
-    ensures rows { IfOk result (λ v. AreMoved lo.now hi.now (vertices_of a.entry) (rows_of v.items (vertices_of a.entry).dim 0)) }
+    ensures rows { IfOk result
+        (λ v. AreMoved lo.now hi.now (vertices_of a.entry)
+        (rows_of v.items (vertices_of a.entry).dim 0)) }
 {
     let dim = a.dim();
     let mut moved = Vec::with_capacity(alloc, a.flat.len())?;
@@ -173,7 +179,9 @@ fn moved_rows(alloc: Global, a: Rows<'_>, lo: &[i32], hi: &[i32]) -> Result<Vec<
 fn closed_rows(alloc: Global, a: Rows<'_>, lo: &[i32], hi: &[i32]) -> Result<Vec<i32>, AllocError>
     requires { is_box (vertices_of a).dim lo.now hi.now ≡ true }
     ensures whole { IfOk result (λ v. length v.items % (vertices_of a.entry).dim ≡ 0) }
-    ensures rows { IfOk result (λ v. AreMoved lo.now hi.now (vertices_of a.entry) (rows_of v.items (vertices_of a.entry).dim 0)) }
+    ensures rows { IfOk result
+        (λ v. AreMoved lo.now hi.now (vertices_of a.entry)
+        (rows_of v.items (vertices_of a.entry).dim 0)) }
 {
     let dim = a.dim();
     let mut low = Vec::with_capacity(alloc, a.flat.len())?;
@@ -195,7 +203,9 @@ fn ends_below(a: Rows<'_>, at: i32) -> bool {
 fn rows_inside(alloc: Global, a: Rows<'_>, lo: &[i32], hi: &[i32]) -> Result<Vec<i32>, AllocError>
     requires { is_box (vertices_of a).dim lo.now hi.now ≡ true }
     ensures whole { IfOk result (λ v. length v.items % (vertices_of a.entry).dim ≡ 0) }
-    ensures rows { IfOk result (λ v. AreMoved lo.now hi.now (vertices_of a.entry) (rows_of v.items (vertices_of a.entry).dim 0)) }
+    ensures rows { IfOk result
+        (λ v. AreMoved lo.now hi.now (vertices_of a.entry)
+        (rows_of v.items (vertices_of a.entry).dim 0)) }
 {
     if ends_below(a, hi[0]) {
         moved_rows(alloc, a, lo, hi)

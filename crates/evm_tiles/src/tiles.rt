@@ -93,7 +93,8 @@ impl Tiles {
     pub fn window(&self, alloc: Global, lo: &[i32], hi: &[i32]) -> Result<Solid, NoMemory>
         requires { is_box self.now.dim lo.now hi.now ≡ true }
         ensures dim { IfOk result (λ s. s.dim ≡ self.now.dim) }
-        ensures rows { IfOk result (λ s. s.rows ≡ evm self.now.dim (window_cells self.now lo.now hi.now)) }
+        ensures rows { IfOk result
+            (λ s. s.rows ≡ evm self.now.dim (window_cells self.now lo.now hi.now)) }
         ensures cells { IfOk result (λ s. cells_of s ≡ window_cells self.now lo.now hi.now) }
     {
         let part = self.root.window(alloc, lo, hi)?;
@@ -135,7 +136,8 @@ impl Tiles {
         requires deep { 2 ≤ self.now.dim }
         requires height { is_cell_coord self.now.dim at ≡ true }
         ensures dim { IfOk result (λ s. s.dim ≡ self.now.dim - 1) }
-        ensures rows { IfOk result (λ s. s.rows ≡ evm (self.now.dim - 1) (section_cells self.now at)) }
+        ensures rows { IfOk result
+            (λ s. s.rows ≡ evm (self.now.dim - 1) (section_cells self.now at)) }
         ensures cells { IfOk result (λ s. cells_of s ≡ section_cells self.now at) }
     {
         let dim = self.dim;
