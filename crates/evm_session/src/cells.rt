@@ -43,13 +43,15 @@ fn is_filled_anywhere(alloc: Global, tree: &Tiles, cell: &[i32]) -> Result<bool,
 
 /// Whether a solid has a cell. Only the leaf whose tile has the cell is looked at. Takes memory for the corners of the cell, and for
 /// what the leaf has inside it.
+#[tactic(auto, using(crate::proofs::CellWindows::cell_length))]
 pub fn is_filled(alloc: Global, tree: &Tiles, cell: &[i32]) -> Result<bool, NoMemory>
     requires { is_cell tree.now.dim cell.now ≡ true }
     ensures { IfOk result (λ filled. filled ≡ has (cells_of tree.now) cell.now) }
 {
     tree.facts();
-    let end = upper(cell);
-    let end = &end[..tree.dim()];
+    let dim = tree.dim();
+    let corner = upper(cell);
+    let end = &corner[..dim];
     match Solid::of_box(alloc, cell, end) {
         Ok(_) => is_filled_in(alloc, tree, cell, end),
         Err(BoxError::Range) => is_filled_anywhere(alloc, tree, cell),
