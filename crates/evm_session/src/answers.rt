@@ -27,7 +27,8 @@ fn carry_out_alone(
     out: &mut Vec<u8>,
 ) -> Result<(), Refusal>
     requires { names_file command.now ≡ false }
-    ensures { Carries result scene.old scene.new out.old.items out.new.items (turn_of no_files scene.old command.now) }
+    ensures { Carries result scene.old scene.new out.old.items out.new.items
+        (turn_of no_files scene.old command.now) }
 {
     match *command {
         Command::Blank => Ok(()),
@@ -57,7 +58,10 @@ fn carry_out<S: Shelf>(
     shelf: &mut S,
     out: &mut Vec<u8>,
 ) -> Result<(), Refusal>
-    ensures { CarriesOver result scene.old scene.new out.old.items out.new.items (shelf_view (S.files shelf.old) (S.faults shelf.old) (S.misses shelf.old)) (shelf_view (S.files shelf.new) (S.faults shelf.new) (S.misses shelf.new)) (request_of scene.old command.now) }
+    ensures { CarriesOver result scene.old scene.new out.old.items out.new.items
+        (shelf_view (S.files shelf.old) (S.faults shelf.old) (S.misses shelf.old))
+        (shelf_view (S.files shelf.new) (S.faults shelf.new) (S.misses shelf.new))
+        (request_of scene.old command.now) }
 {
     match *command {
         Command::Load { name, form, file } => load(scene, alloc, name, &form, &file, shelf, out),
@@ -74,7 +78,10 @@ fn carry_out_line<S: Shelf>(
     shelf: &mut S,
     out: &mut Vec<u8>,
 ) -> Result<(), Refusal>
-    ensures { CarriesOver result scene.old scene.new out.old.items out.new.items (shelf_view (S.files shelf.old) (S.faults shelf.old) (S.misses shelf.old)) (shelf_view (S.files shelf.new) (S.faults shelf.new) (S.misses shelf.new)) (line_request scene.old line.now) }
+    ensures { CarriesOver result scene.old scene.new out.old.items out.new.items
+        (shelf_view (S.files shelf.old) (S.faults shelf.old) (S.misses shelf.old))
+        (shelf_view (S.files shelf.new) (S.faults shelf.new) (S.misses shelf.new))
+        (line_request scene.old line.now) }
 {
     match read_line(alloc, line) {
         Ok(command) => carry_out(scene, alloc, &command, shelf, out),
@@ -90,7 +97,9 @@ pub fn answer<S: Shelf>(
     shelf: &mut S,
     out: &mut Vec<u8>,
 ) -> Result<bool, NoMemory>
-    ensures { Answers result line.now scene.old scene.new out.old.items out.new.items (shelf_view (S.files shelf.old) (S.faults shelf.old) (S.misses shelf.old)) (shelf_view (S.files shelf.new) (S.faults shelf.new) (S.misses shelf.new)) }
+    ensures { Answers result line.now scene.old scene.new out.old.items out.new.items
+        (shelf_view (S.files shelf.old) (S.faults shelf.old) (S.misses shelf.old))
+        (shelf_view (S.files shelf.new) (S.faults shelf.new) (S.misses shelf.new)) }
 {
     let before = out.len();
     match carry_out_line(scene, alloc, line, shelf, out) {

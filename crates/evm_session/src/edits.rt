@@ -15,7 +15,8 @@ use std::alloc::Global;
 /// Carries out an edit of a solid, and tells how many names it changed. The room for the reply comes first, so that nothing
 /// fails behind an edit that was made.
 pub fn edit(scene: &mut Scene, alloc: Global, edit: Edit, out: &mut Vec<u8>) -> Result<(), Refusal>
-    ensures { Carries result scene.old scene.new out.old.items out.new.items (edited scene.old (edit_view edit) (Changed (changed scene.old (edit_view edit)))) }
+    ensures { Carries result scene.old scene.new out.old.items out.new.items
+        (edited scene.old (edit_view edit) (Changed (changed scene.old (edit_view edit)))) }
 {
     reserve_number(out)?;
     let done = scene.apply(alloc, edit)?;
@@ -30,7 +31,8 @@ pub fn edit_name(
     edit: Edit,
     out: &mut Vec<u8>,
 ) -> Result<(), Refusal>
-    ensures { Carries result scene.old scene.new out.old.items out.new.items (edited scene.old (edit_view edit) (Changed 0)) }
+    ensures { Carries result scene.old scene.new out.old.items out.new.items
+        (edited scene.old (edit_view edit) (Changed 0)) }
 {
     reserve_number(out)?;
     scene.apply(alloc, edit)?;

@@ -51,7 +51,10 @@ pub fn load<S: Shelf>(
     shelf: &mut S,
     out: &mut Vec<u8>,
 ) -> Result<(), Refusal>
-    ensures { CarriesOver result scene.old scene.new out.old.items out.new.items (shelf_view (S.files shelf.old) (S.faults shelf.old) (S.misses shelf.old)) (shelf_view (S.files shelf.new) (S.faults shelf.new) (S.misses shelf.new)) (request_of scene.old (commands.Load name form.now file.now)) }
+    ensures { CarriesOver result scene.old scene.new out.old.items out.new.items
+        (shelf_view (S.files shelf.old) (S.faults shelf.old) (S.misses shelf.old))
+        (shelf_view (S.files shelf.new) (S.faults shelf.new) (S.misses shelf.new))
+        (request_of scene.old (commands.Load name form.now file.now)) }
 {
     let dim = find_input(scene, &name, form)?;
     reserve_number(out)?;
@@ -82,7 +85,10 @@ pub fn save<S: Shelf>(
     shelf: &mut S,
     out: &mut Vec<u8>,
 ) -> Result<(), Refusal>
-    ensures { CarriesOver result scene.now scene.now out.old.items out.new.items (shelf_view (S.files shelf.old) (S.faults shelf.old) (S.misses shelf.old)) (shelf_view (S.files shelf.new) (S.faults shelf.new) (S.misses shelf.new)) (request_of scene.now (commands.Save name.now form.now file.now)) }
+    ensures { CarriesOver result scene.now scene.now out.old.items out.new.items
+        (shelf_view (S.files shelf.old) (S.faults shelf.old) (S.misses shelf.old))
+        (shelf_view (S.files shelf.new) (S.faults shelf.new) (S.misses shelf.new))
+        (request_of scene.now (commands.Save name.now form.now file.now)) }
 {
     let Some(tree) = scene.kept(name) else {
         return Err(Refusal::Name);

@@ -76,7 +76,9 @@ impl Session {
         shelf: &mut S,
         out: &mut Vec<u8>,
     ) -> Result<bool, NoMemory>
-        ensures { Answers result line.now self.old self.new out.old.items out.new.items (shelf_view (S.files shelf.old) (S.faults shelf.old) (S.misses shelf.old)) (shelf_view (S.files shelf.new) (S.faults shelf.new) (S.misses shelf.new)) }
+        ensures { Answers result line.now self.old self.new out.old.items out.new.items
+            (shelf_view (S.files shelf.old) (S.faults shelf.old) (S.misses shelf.old))
+            (shelf_view (S.files shelf.new) (S.faults shelf.new) (S.misses shelf.new)) }
     {
         answer(&mut self.scene, alloc, line, shelf, out)
     }

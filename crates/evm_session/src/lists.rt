@@ -21,7 +21,8 @@ use std::alloc::Global;
 
 /// The number of names, and for each in the order of their making a line: the name, its dimension, and `input` or its formula.
 pub fn list(scene: &Scene, alloc: Global, out: &mut Vec<u8>) -> Result<(), Refusal>
-    ensures { Carries result scene.now scene.now out.old.items out.new.items (turn_of no_files scene.now commands.List) }
+    ensures { Carries result scene.now scene.now out.old.items out.new.items
+        (turn_of no_files scene.now commands.List) }
 {
     say_number(out, scene.count() as u128)?;
     say_entries(scene, alloc, out)?;
@@ -42,7 +43,8 @@ fn say_entries(scene: &Scene, alloc: Global, out: &mut Vec<u8>) -> Result<(), No
 
 /// Appends the line of a name; nothing where it does not stand.
 fn say_entry(scene: &Scene, alloc: Global, name: &Name, out: &mut Vec<u8>) -> Result<(), NoMemory>
-    ensures { Says result out.old.items out.new.items (entry_line (entry_of scene.now.entries name.now)) }
+    ensures { Says result out.old.items out.new.items
+        (entry_line (entry_of scene.now.entries name.now)) }
 {
     let Some(entry) = scene.entry(name) else {
         return Ok(());
@@ -57,7 +59,8 @@ fn say_entry(scene: &Scene, alloc: Global, name: &Name, out: &mut Vec<u8>) -> Re
 
 /// Appends the words of a formula, or `input` where there is none.
 fn say_what(alloc: Global, formula: Option<&Formula>, out: &mut Vec<u8>) -> Result<(), NoMemory>
-    ensures { Says result out.old.items out.new.items (what_text (option_map (λ f. f.now) formula.entry)) }
+    ensures { Says result out.old.items out.new.items
+        (what_text (option_map (λ f. f.now) formula.entry)) }
 {
     match formula {
         Some(formula) => say_formula(alloc, formula, out),

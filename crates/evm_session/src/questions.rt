@@ -19,7 +19,8 @@ use std::alloc::Global;
 
 /// The extreme vertices.
 pub fn show(scene: &Scene, alloc: Global, name: &Name, out: &mut Vec<u8>) -> Result<(), Refusal>
-    ensures { Carries result scene.now scene.now out.old.items out.new.items (turn_of no_files scene.now (commands.Show name.now)) }
+    ensures { Carries result scene.now scene.now out.old.items out.new.items
+        (turn_of no_files scene.now (commands.Show name.now)) }
 {
     let Some(tree) = scene.kept(name) else {
         return Err(Refusal::Name);
@@ -31,7 +32,8 @@ pub fn show(scene: &Scene, alloc: Global, name: &Name, out: &mut Vec<u8>) -> Res
 
 /// The number of cells.
 pub fn content(scene: &Scene, alloc: Global, name: &Name, out: &mut Vec<u8>) -> Result<(), Refusal>
-    ensures { Carries result scene.now scene.now out.old.items out.new.items (turn_of no_files scene.now (commands.Content name.now)) }
+    ensures { Carries result scene.now scene.now out.old.items out.new.items
+        (turn_of no_files scene.now (commands.Content name.now)) }
 {
     let Some(tree) = scene.kept(name) else {
         return Err(Refusal::Name);
@@ -44,7 +46,8 @@ pub fn content(scene: &Scene, alloc: Global, name: &Name, out: &mut Vec<u8>) -> 
 
 /// The number of faces between a cell and a place that is no cell.
 pub fn boundary(scene: &Scene, alloc: Global, name: &Name, out: &mut Vec<u8>) -> Result<(), Refusal>
-    ensures { Carries result scene.now scene.now out.old.items out.new.items (turn_of no_files scene.now (commands.Boundary name.now)) }
+    ensures { Carries result scene.now scene.now out.old.items out.new.items
+        (turn_of no_files scene.now (commands.Boundary name.now)) }
 {
     let Some(tree) = scene.kept(name) else {
         return Err(Refusal::Name);
@@ -63,7 +66,8 @@ pub fn at(
     nums: &Nums,
     out: &mut Vec<u8>,
 ) -> Result<(), Refusal>
-    ensures { Carries result scene.now scene.now out.old.items out.new.items (turn_of no_files scene.now (commands.At name.now nums.now)) }
+    ensures { Carries result scene.now scene.now out.old.items out.new.items
+        (turn_of no_files scene.now (commands.At name.now nums.now)) }
 {
     let Some(tree) = scene.kept(name) else {
         return Err(Refusal::Name);
@@ -102,7 +106,8 @@ pub fn point(
     nums: &Nums,
     out: &mut Vec<u8>,
 ) -> Result<(), Refusal>
-    ensures { Carries result scene.now scene.now out.old.items out.new.items (turn_of no_files scene.now (commands.Point name.now nums.now)) }
+    ensures { Carries result scene.now scene.now out.old.items out.new.items
+        (turn_of no_files scene.now (commands.Point name.now nums.now)) }
 {
     let Some(tree) = scene.kept(name) else {
         return Err(Refusal::Name);

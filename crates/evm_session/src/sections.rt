@@ -22,7 +22,9 @@ use std::alloc::Global;
 /// The axis that a number states, counted from 1, or `None` exactly where it is none of this dimension.
 fn axis_of(axis: &Num, dim: usize) -> Option<usize>
     requires { dim ≤ 6 }
-    ensures { MatchOption result (is_axis dim axis.now ≡ false) (λ found. (is_axis dim axis.now ≡ true) × (0 < found) × (found ≤ dim) × (found ≡ nat_abs axis.now)) }
+    ensures { MatchOption result (is_axis dim axis.now ≡ false)
+        (λ found. (is_axis dim axis.now ≡ true) × (0 < found) × (found ≤ dim)
+        × (found ≡ nat_abs axis.now)) }
 {
     let axis = axis.value();
     if 1 <= axis && axis <= dim as i64 {
@@ -36,7 +38,8 @@ fn axis_of(axis: &Num, dim: usize) -> Option<usize>
 fn height_of(at: &Num, dim: usize) -> Option<i32>
     requires low { 0 < dim }
     requires high { dim ≤ 6 }
-    ensures { MatchOption result (is_cell_coord dim at.now ≡ false) (λ found. (is_cell_coord dim at.now ≡ true) × (found ≡ at.now)) }
+    ensures { MatchOption result (is_cell_coord dim at.now ≡ false)
+        (λ found. (is_cell_coord dim at.now ≡ true) × (found ≡ at.now)) }
 {
     let limit = limit(dim);
     at.between(-limit, limit - 1)
@@ -49,7 +52,8 @@ fn section_of(alloc: Global, tree: &Tiles, along: usize, at: i32) -> Result<Soli
     requires high { along ≤ tree.now.dim }
     requires height { is_cell_coord tree.now.dim at ≡ true }
     ensures dim { IfOk result (λ s. s.dim ≡ tree.now.dim - 1) }
-    ensures cells { IfOk result (λ s. cells_of s ≡ slice (tree.now.dim - 1) (along - 1) at (cells_of tree.now)) }
+    ensures cells { IfOk result
+        (λ s. cells_of s ≡ slice (tree.now.dim - 1) (along - 1) at (cells_of tree.now)) }
 {
     if along == 1 {
         let section = tree.section(alloc, at)?;
@@ -70,7 +74,8 @@ pub fn section(
     at: &Num,
     out: &mut Vec<u8>,
 ) -> Result<(), Refusal>
-    ensures { Carries result scene.now scene.now out.old.items out.new.items (turn_of no_files scene.now (commands.Section name.now axis.now at.now)) }
+    ensures { Carries result scene.now scene.now out.old.items out.new.items
+        (turn_of no_files scene.now (commands.Section name.now axis.now at.now)) }
 {
     scene.facts();
     let Some(tree) = scene.kept(name) else {
@@ -97,7 +102,8 @@ pub fn project(
     axis: &Num,
     out: &mut Vec<u8>,
 ) -> Result<(), Refusal>
-    ensures { Carries result scene.now scene.now out.old.items out.new.items (turn_of no_files scene.now (commands.Project name.now axis.now)) }
+    ensures { Carries result scene.now scene.now out.old.items out.new.items
+        (turn_of no_files scene.now (commands.Project name.now axis.now)) }
 {
     scene.facts();
     let Some(tree) = scene.kept(name) else {

@@ -10,7 +10,8 @@ use evm_outside::{Failed, Sink};
 /// Writes the whole piece, or only a front of it where the sink fails. Each write takes at least one byte.
 pub fn send<O: Sink>(output: &mut O, piece: &[u8]) -> Result<(), Failed>
     ensures whole { OnOk result (Appends (O.written output.old) (O.written output.new) piece.now) }
-    ensures part { OnErr result (AppendsPart (O.written output.old) (O.written output.new) piece.now) }
+    ensures part { OnErr result
+        (AppendsPart (O.written output.old) (O.written output.new) piece.now) }
     ensures cause { HasCause (O.faults output.old) (O.faults output.new) result }
 {
     let mut rest = piece;

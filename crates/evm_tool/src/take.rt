@@ -50,7 +50,8 @@ fn zeros(alloc: Global, count: usize) -> Result<Vec<u8>, AllocError>
 /// Reads once, and appends what came: some bytes, or none at the end.
 fn read_piece<I: Source>(input: &mut I, piece: &mut [u8], script: &mut Vec<u8>) -> Result<bool, Cut>
     requires { 0 < length piece.old }
-    ensures bytes { TakesPiece result (I.left input.old) (I.left input.new) (length piece.old) script.old.items script.new.items }
+    ensures bytes { TakesPiece result (I.left input.old) (I.left input.new)
+        (length piece.old) script.old.items script.new.items }
     ensures faults { ScriptFaults result (I.faults input.old) (I.faults input.new) }
 {
     let count = input.read(piece)?;
