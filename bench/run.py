@@ -72,6 +72,24 @@ def edits(count):
     return script + [f"{question} {name}" for name in "upw" for question in ("content", "boundary")]
 
 
+def beside(count):
+    """Toggles of one cell beside 51,200 separate cells, under two formulas."""
+    with open(BUILD / "checker.pgm", "wb") as file:
+        for z in range(100):
+            file.write(b"P5 64 64 255\n" + bytes(0 if x % 2 or y % 2 or z % 2 else 255 for y in range(64) for x in range(64)))
+    script = ["input a 3", "load a pgm 128 checker.pgm", "input b 3", "def c or a b", "def d and c a"]
+    return script + ["toggle b 100 0 0 101 1 1"] * count + ["content c", "content d"]
+
+
+def plan(count):
+    """Small edits of a plan of 8,000 boxes under one formula."""
+    draw, script = Draw(5), plane(8000)[:4] + ["def c sub a b"]
+    for _ in range(count):
+        command, name, low = ("add", "cut")[draw(2)], "ab"[draw(2)], [draw(499000) for _ in range(2)]
+        script.append(f"{command} {name} {words(low)} {words(number + 1 + draw(900) for number in low)}")
+    return script + ["content a", "content c"]
+
+
 def scan(side):
     """A stack of smooth waves, thresholded at the middle."""
     wave = lambda k, n: [math.sin(2 * math.pi * (k * x / side + n)) for x in range(side)]
@@ -224,7 +242,9 @@ def main():
     bench.table("Exclusive or of two lists in space", "rows in each", (10000, 80000, 640000), bench.merges, "the merge loop", 0.00002)
     bench.table("Unions of random boxes in a cube of 64, four Booleans, measures", "boxes in each", (40, 160, 640), bench.voxels(booleans, 64), "dense arrays")
     bench.table("The same sixty boxes in ever larger cubes", "cells a side", (64, 128, 256), bench.voxels(room, None), "dense arrays")
-    bench.table("Small edits under five formulas in a cube of 64", "edits", (250, 1000, 4000), bench.voxels(edits, 64), "dense arrays")
+    bench.table("Small edits under five formulas in a cube of 64", "edits", (1000, 4000, 16000), bench.voxels(edits, 64), "dense arrays")
+    bench.table("Toggles beside a scan of 409,600 vertices, two formulas", "toggles", (20, 200, 2000), bench.voxels(beside, 128), "dense arrays")
+    bench.table("Small edits of a plan of 8000 boxes, one formula", "edits", (100, 1000, 10000), bench.alone(plan), "dense arrays")
     bench.table("A scan read and measured", "samples a side", (48, 96, 192), bench.voxels(scan, None), "dense arrays")
     bench.table("Unions of boxes in a plane of 500000, four Booleans, measures", "boxes in each", (500, 2000, 8000), bench.alone(plane), "dense arrays")
     print("\n## Where the program loses\n")
