@@ -1,5 +1,5 @@
 -- The heights at which the section of a solid changes, and the two parts of its couplet there. Axes are counted from 1.
-use Rattle.std.specs.Prelude.{ℕ, ◌-◌, ℤ, pos, ◌-ℤ◌, List}
+use Rattle.std.specs.Prelude.{ℕ, ◌-◌, ℤ, pos, ◌-ℤ◌, List, map, get_or}
 use Rattle.evm_cells.specs.Booleans.{sub_cells}
 use Rattle.evm_cells.specs.Sections.{cuts}
 use Rattle.evm_rows.specs.Rows.{Vertices, cells_of}
@@ -21,3 +21,7 @@ falling_cells axis at a = only_cells axis (at -ℤ pos 1) at a
 -- the heights at which the sections just below and just above differ
 abbrev pub cut_heights : ℕ → Vertices → List ℤ
 cut_heights axis a = cuts (a.dim - 1) (axis - 1) (cells_of a)
+
+-- the coordinates of rows on an axis, counted from 0
+abbrev pub heights_on : ℕ → List (List ℤ) → List ℤ
+heights_on i V = map (λ p. get_or p i (pos 0)) V

@@ -5,6 +5,8 @@
 //! above. The names rising and falling for them are this project's own.
 #![tactic(auto)]
 
+mod heights;
 mod sides;
 
+pub use heights::cuts;
 pub use sides::{falling, rising};
