@@ -10,3 +10,6 @@ mod sides;
 
 pub use heights::cuts;
 pub use sides::{falling, rising};
+
+#[cfg(test)]
+mod tests;
