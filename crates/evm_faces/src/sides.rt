@@ -50,11 +50,11 @@ fn only_at(
     requires low { 0 < axis }
     requires high { axis ≤ (vertices_of a).dim }
     ensures dim { IfOk result (λ s. s.dim ≡ (vertices_of a.entry).dim - 1) }
+    ensures cells { IfOk result
+        (λ s. cells_of s ≡ only_cells axis here there (vertices_of a.entry)) }
     ensures rows { IfOk result
         (λ s. s.rows ≡ evm ((vertices_of a.entry).dim - 1)
         (only_cells axis here there (vertices_of a.entry))) }
-    ensures cells { IfOk result
-        (λ s. cells_of s ≡ only_cells axis here there (vertices_of a.entry)) }
 {
     let kept = section(alloc, a, axis, here)?;
     let taken = section(alloc, a, axis, there)?;

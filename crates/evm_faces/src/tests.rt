@@ -6,24 +6,28 @@ use super::{cuts, falling, rising};
 use evm_rows::{Rows, Solid, limit, xor};
 use std::alloc::Global;
 
-// The exclusive or of boxes, each with the numbers of its lower corner and then those of its upper one.
-fn solid_of(alloc: Global, dim: usize, boxes: &[&[i32]]) -> Option<Solid> {
-    if dim == 0 || 6 < dim {
+// A box, from the numbers of its lower corner and then those of its upper one.
+fn box_of(alloc: Global, dim: usize, corners: &[i32]) -> Option<Solid> {
+    if 6 < dim || dim == 0 || corners.len() != 2 * dim {
         return None;
     }
-    let mut all = Solid::empty(alloc, dim);
-    for row in boxes {
-        if row.len() != 2 * dim {
-            return None;
-        }
-        let (lo, hi) = row.split_at(dim);
-        let next = Solid::of_box(alloc, lo, hi).ok()?;
-        if next.dim() != all.dim() {
-            return None;
-        }
-        all = xor(alloc, all.rows(), next.rows()).ok()?;
+    let (low, high) = corners.split_at(dim);
+    Solid::of_box(alloc, low, high).ok()
+}
+
+// The exclusive or of boxes.
+fn solid_of(alloc: Global, dim: usize, boxes: &[&[i32]]) -> Option<Solid> {
+    if 6 < dim || dim == 0 {
+        return None;
     }
-    Some(all)
+    let mut whole = Solid::empty(alloc, dim);
+    for corners in boxes {
+        let part = box_of(alloc, dim, corners)?;
+        if part.dim() == whole.dim() {
+            whole = xor(alloc, whole.rows(), part.rows()).ok()?;
+        }
+    }
+    Some(whole)
 }
 
 // Whether vertices of dimension `dim` have the coordinate.
