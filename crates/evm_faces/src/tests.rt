@@ -82,10 +82,8 @@ fn agrees(
     has_cuts(alloc, solid.rows(), axis, heights)
 }
 
-// An L of three squares; a ring; two squares that meet at a corner; a block on each axis; a bar from limit to limit.
-#[test]
-fn faces(rt: HostRuntime) {
-    let alloc = rt.alloc();
+// An L of three squares, on both axes.
+fn has_l_faces(alloc: Global) -> bool {
     let corner: &[&[i32]] = &[&[0, 0, 2, 1], &[0, 1, 1, 2]];
     let steps: &[(i32, &[i32], &[i32])] = &[
         (-1, &[], &[]),
@@ -94,57 +92,45 @@ fn faces(rt: HostRuntime) {
         (2, &[], &[0, 1]),
         (3, &[], &[]),
     ];
-    assert!(rt; agrees(alloc, (2, corner), 1, &[0, 1, 2], steps));
-    assert!(rt; agrees(alloc, (2, corner), 2, &[0, 1, 2], steps));
+    agrees(alloc, (2, corner), 1, &[0, 1, 2], steps)
+        && agrees(alloc, (2, corner), 2, &[0, 1, 2], steps)
+}
+
+// A ring; two squares that meet at a corner.
+fn has_hole_faces(alloc: Global) -> bool {
     let ring: &[&[i32]] = &[&[0, 0, 3, 3], &[1, 1, 2, 2]];
     let sides: &[(i32, &[i32], &[i32])] = &[(1, &[], &[1, 2]), (2, &[1, 2], &[])];
-    assert!(rt; agrees(alloc, (2, ring), 2, &[0, 1, 2, 3], sides));
     let touching: &[&[i32]] = &[&[0, 0, 1, 1], &[1, 1, 2, 2]];
-    assert!(rt;
-        agrees(
-            alloc,
-            (2, touching),
-            1,
-            &[0, 1, 2],
-            &[(1, &[1, 2], &[0, 1])]
-        )
-    );
+    let both: &[(i32, &[i32], &[i32])] = &[(1, &[1, 2], &[0, 1])];
+    agrees(alloc, (2, ring), 2, &[0, 1, 2, 3], sides)
+        && agrees(alloc, (2, touching), 1, &[0, 1, 2], both)
+}
+
+// A block along one axis, with its face there.
+fn has_block_faces(alloc: Global, axis: usize, low: i32, high: i32, face: &[i32]) -> bool {
     let block: &[&[i32]] = &[&[0, 1, 2, 1, 3, 5]];
-    let first: &[i32] = &[1, 2, 1, 5, 3, 2, 3, 5];
-    let second: &[i32] = &[0, 2, 0, 5, 1, 2, 1, 5];
-    let third: &[i32] = &[0, 1, 0, 3, 1, 1, 1, 3];
-    assert!(rt;
-        agrees(
-            alloc,
-            (3, block),
-            1,
-            &[0, 1],
-            &[(0, first, &[]), (1, &[], first)]
-        )
-    );
-    assert!(rt;
-        agrees(
-            alloc,
-            (3, block),
-            2,
-            &[1, 3],
-            &[(1, second, &[]), (3, &[], second)]
-        )
-    );
-    assert!(rt;
-        agrees(
-            alloc,
-            (3, block),
-            3,
-            &[2, 5],
-            &[(2, third, &[]), (5, &[], third)]
-        )
-    );
+    let ends: &[(i32, &[i32], &[i32])] = &[(low, face, &[]), (high, &[], face)];
+    agrees(alloc, (3, block), axis, &[low, high], ends)
+}
+
+// A bar from limit to limit, and nothing.
+fn has_limit_faces(alloc: Global) -> bool {
     let bar: &[&[i32]] = &[&[-1_073_741_824, 0, 1_073_741_824, 1]];
+    let heights: &[i32] = &[-1_073_741_824, 1_073_741_824];
     let ends: &[(i32, &[i32], &[i32])] = &[
         (-1_073_741_824, &[0, 1], &[]),
         (1_073_741_824, &[], &[0, 1]),
     ];
-    assert!(rt; agrees(alloc, (2, bar), 1, &[-1_073_741_824, 1_073_741_824], ends));
-    assert!(rt; agrees(alloc, (2, &[]), 1, &[], &[(0, &[], &[])]));
+    agrees(alloc, (2, bar), 1, heights, ends) && agrees(alloc, (2, &[]), 1, &[], &[(0, &[], &[])])
+}
+
+#[test]
+fn faces(rt: HostRuntime) {
+    let alloc = rt.alloc();
+    assert!(rt; has_l_faces(alloc));
+    assert!(rt; has_hole_faces(alloc));
+    assert!(rt; has_block_faces(alloc, 1, 0, 1, &[1, 2, 1, 5, 3, 2, 3, 5]));
+    assert!(rt; has_block_faces(alloc, 2, 1, 3, &[0, 2, 0, 5, 1, 2, 1, 5]));
+    assert!(rt; has_block_faces(alloc, 3, 2, 5, &[0, 1, 0, 3, 1, 1, 1, 3]));
+    assert!(rt; has_limit_faces(alloc));
 }
