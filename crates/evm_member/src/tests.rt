@@ -52,6 +52,7 @@ fn squares(rt: HostRuntime) {
 #[test]
 fn blocks(rt: HostRuntime) {
     let limit = 1_073_741_824;
+    let (low, high) = ([-limit, -limit], [limit, limit]);
     let table: [(&[i32], &[i32], &[i32], Place, bool); 9] = [
         (&[0, 0, 0], &[2, 2, 2], &[1, 1, 1], Place::Inside, true),
         (&[0, 0, 0], &[2, 2, 2], &[1, 1, 2], Place::Boundary, false),
@@ -66,20 +67,8 @@ fn blocks(rt: HostRuntime) {
             false,
         ),
         (&[4], &[7], &[7], Place::Boundary, false),
-        (
-            &[-limit, -limit],
-            &[limit, limit],
-            &[limit - 1, -limit],
-            Place::Boundary,
-            true,
-        ),
-        (
-            &[-limit, -limit],
-            &[limit, limit],
-            &[limit - 1, limit - 1],
-            Place::Inside,
-            true,
-        ),
+        (&low, &high, &[limit - 1, -limit], Place::Boundary, true),
+        (&low, &high, &[limit - 1, limit - 1], Place::Inside, true),
     ];
     for (lo, hi, at, stands, fills) in table {
         if lo.len() == 0 || 6 < lo.len() || hi.len() != lo.len() {

@@ -68,7 +68,7 @@ impl Boxes {
     }
 }
 
-// The ends of boxes on the axes before those that are split: on each of the first `depth` axes they go from `lo` to `hi`.
+/// The ends of boxes on the axes before those that are split: on each of the first `depth` axes they go from `lo` to `hi`.
 #[derive(Clone, Copy)]
 pub(crate) struct Front {
     lo: [i32; DIM_MAX],
@@ -77,7 +77,7 @@ pub(crate) struct Front {
 }
 
 impl Front {
-    // No axis was passed.
+    /// The ends before the first axis: none.
     pub(crate) fn start() -> Front
         ensures depth { result.depth ≡ 0 }
         ensures ends { front_of result ≡ record { lo = []; hi = [] } }
@@ -89,7 +89,7 @@ impl Front {
         }
     }
 
-    // The ends with those on the next axis.
+    /// The ends with those on the next axis, `low` the lower.
     pub(crate) fn then(self, low: i32, high: i32) -> Front
         requires { self.depth < 6 }
         ensures depth { result.depth ≡ self.depth + 1 }
@@ -103,7 +103,7 @@ impl Front {
         next
     }
 
-    // Appends the box with these ends.
+    /// Appends the box with these ends: its lower corner, then its upper one. Takes memory only where `out` has no room left.
     pub(crate) fn append_to(&self, out: &mut Vec<i32>) -> Result<(), AllocError>
         requires { self.now.depth ≤ 6 }
         ensures { OnOk result
