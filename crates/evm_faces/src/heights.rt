@@ -25,6 +25,7 @@ fn heights_of(alloc: Global, a: Rows<'_>, axis: usize) -> Result<Vec<i32>, Alloc
 /// just below. They are coordinates of points, from minus the limit up to the limit, and are the coordinates on this axis
 /// of the extreme vertices, each once: the couplet of Aguilera and Ayala at a height is empty exactly where no extreme
 /// vertex stands there. A solid without cells has none. Takes memory for a number a row, sorted in place.
+/// The one error is want of memory.
 pub fn cuts(alloc: Global, a: Rows<'_>, axis: usize) -> Result<Vec<i32>, NoMemory>
     requires deep { 2 ≤ (vertices_of a).dim }
     requires low { 0 < axis }

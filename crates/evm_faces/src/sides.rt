@@ -66,7 +66,7 @@ fn only_at(
 /// the section below, without this coordinate. The height is the coordinate of a point, from minus the limit up to the
 /// limit; at the limits one of the two sections has no cells. This is the part of the couplet of Aguilera and Ayala that
 /// bounds the solid from below; the name is this project's own. Takes memory for the two sections, as [`slice`] does, and
-/// for their difference.
+/// for their difference. The one error is want of memory.
 pub fn rising(alloc: Global, a: Rows<'_>, axis: usize, at: i32) -> Result<Solid, NoMemory>
     requires deep { 2 ≤ (vertices_of a).dim }
     requires low { 0 < axis }
@@ -86,7 +86,7 @@ pub fn rising(alloc: Global, a: Rows<'_>, axis: usize, at: i32) -> Result<Solid,
 /// in the section that begins there, without this coordinate. The height is the coordinate of a point, from minus the
 /// limit up to the limit; at the limits one of the two sections has no cells. This is the part of the couplet of Aguilera
 /// and Ayala that bounds the solid from above; the name is this project's own. Takes memory for the two sections, as
-/// [`slice`] does, and for their difference.
+/// [`slice`] does, and for their difference. The one error is want of memory.
 pub fn falling(alloc: Global, a: Rows<'_>, axis: usize, at: i32) -> Result<Solid, NoMemory>
     requires deep { 2 ≤ (vertices_of a).dim }
     requires low { 0 < axis }
