@@ -8,7 +8,7 @@ use Rattle.std.proofs.lemmas.Bool.Decides.{nat_tests}
 use Rattle.std.proofs.lemmas.Grind.{flat_map-append}
 use Rattle.std.proofs.lemmas.List.{map-append, length-map, length-drop, take_more, take_all}
 use Rattle.std.proofs.lemmas.List.Elements.{All-nil, All-cons, All-append, All-weaker}
-use Rattle.evm_text.specs.Lines.{is_lf, without_cr}
+use Rattle.evm_text.specs.Lines.{is_lf, without_cr, text_of}
 use Rattle.evm_text.specs.Words.{words, is_comment}
 use Rattle.evm_text.specs.Numbers.{number, numbers, in_number_range}
 use Rattle.evm_cells.specs.Limits.{is_point_coord, IsCellSet}
@@ -19,14 +19,14 @@ use Rattle.evm_cells.proofs.Xor.{and_first, and_second, and_both}
 use Rattle.evm_cells.proofs.Lists.{all-append, all_weaker}
 use Rattle.evm_cells.proofs.Universe.{point_parts}
 use Rattle.evm_formats.specs.BoxFile.{file_cells, head_dim, is_skipped, just_numbers}
-use Rattle.evm_formats.specs.BoxLaws.{IsLine, text_of, IsHead, HasBox}
+use Rattle.evm_formats.specs.BoxLaws.{IsLine, IsHead, HasBox}
 use Rattle.evm_formats.proofs.BoxLaws.{boxes}
-use Rattle.evm_script.specs.Printed.{spaced}
+use Rattle.evm_text.specs.Spaced.{spaced}
 use Rattle.evm_script.proofs.Spaced.{is_plain, words_spaced, no_cr_spaced}
 use Rattle.evm_script.proofs.Decimals.{numbers_again, number_again, plain_numbers, plain_number}
 use Rattle.evm_partition.specs.Partition.{partition}
 use Rattle.evm_partition.proofs.Within.{boxes_have_room, union_of_partition}
-use Rattle.evm_box_writer.specs.BoxText.{head_line, box_line, box_file}
+use Rattle.evm_formats.specs.BoxText.{head_line, box_line, box_file}
 
 -- ---- coordinates are numbers that are read again
 

@@ -8,8 +8,8 @@ ghost use Rattle.std.specs.List.{flat_map};
 ghost use Rattle.std.specs.Fmt.{signed_decimal};
 ghost use Rattle.evm_rows.specs.Rows.{cells_of};
 ghost use Rattle.evm_formats.specs.BoxFile.{file_cells};
-ghost use Rattle.evm_formats.specs.BoxLaws.{text_of};
-ghost use Rattle.evm_box_writer.specs.BoxText.{box_file, box_line, head_line};
+ghost use Rattle.evm_text.specs.Lines.{text_of};
+ghost use Rattle.evm_formats.specs.BoxText.{box_file, box_line, head_line};
 
 use evm_partition::{Boxes, split};
 use evm_rows::{NoMemory, Solid};

@@ -12,3 +12,4 @@ pub mod ShapeLaws
 pub mod Windows
 pub mod Localities
 pub mod Unions
+pub mod Parts

@@ -8,7 +8,7 @@ use evm_boolean::{Op2, and, sub};
 use evm_rows::{NoMemory, Rows, Solid, own};
 use std::alloc::Global;
 
-// Where a change of the left operand changes the value, with the right operand as it will be.
+/// Where a change of the left operand changes the value, with the right operand as it will be.
 pub(crate) fn left_change(
     alloc: Global,
     op: Op2,
@@ -26,7 +26,7 @@ pub(crate) fn left_change(
     }
 }
 
-// Where a change of the right operand changes the value, with the left operand as it was.
+/// Where a change of the right operand changes the value, with the left operand as it was.
 pub(crate) fn right_change(
     alloc: Global,
     op: Op2,

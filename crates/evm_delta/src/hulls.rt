@@ -33,7 +33,7 @@ pub(crate) struct Ends {
     pub(crate) hi: [i32; DIM_MAX],
 }
 
-// The least box that has all rows of a change.
+/// The least box that has all rows of a change.
 pub(crate) fn hull(d: Rows<'_>) -> Ends
     ensures around { IsAround (vertices_of d.entry).dim result.lo result.hi (vertices_of d.entry) }
     ensures low { length result.lo ≡ 6 }
@@ -51,7 +51,7 @@ pub(crate) fn hull(d: Rows<'_>) -> Ends
     ends
 }
 
-// What a tree has in the least box of a change.
+/// What a tree has in the least box of a change.
 pub(crate) fn near(alloc: Global, tree: &Tiles, d: Rows<'_>) -> Result<Solid, NoMemory>
     requires same_dim { (vertices_of d).dim ≡ tree.now.dim }
     requires some { 0 < length (vertices_of d).rows }
@@ -64,8 +64,8 @@ pub(crate) fn near(alloc: Global, tree: &Tiles, d: Rows<'_>) -> Result<Solid, No
     Ok(part)
 }
 
-// What a tree has in that box, opened along an axis, counted from 1, to the ends of the limits: whole columns, so that it
-// has all that stands over a cell of the change.
+/// What a tree has in that box, opened along an axis, counted from 1, to the ends of the limits: whole columns, so that it
+/// has all that stands over a cell of the change.
 pub(crate) fn near_columns(
     alloc: Global,
     tree: &Tiles,

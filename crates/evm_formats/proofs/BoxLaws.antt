@@ -16,8 +16,8 @@ use Rattle.evm_cells.proofs.Coords.{eq_yes}
 use Rattle.evm_cells.proofs.Universe.{point_parts}
 use Rattle.evm_cells.proofs.Unions.{two_unions, one_box}
 use Rattle.evm_formats.specs.BoxFile.{Boxes, head_dim, just_numbers, box_of_numbers, boxes_of_line, boxes_of_lines, joined, boxes_after, boxes_of_file, union_or_refusal, file_cells}
-use Rattle.evm_formats.specs.BoxLaws.{IsLine, text_of, IsHead, HasBox, BoxesStateUnion, PiecesStateUnion, BlanksStateNothing, FirstWrongLine, TwoRooms}
-use Rattle.evm_text.specs.Lines.{is_lf, lines, lines_of_parts, without_cr}
+use Rattle.evm_formats.specs.BoxLaws.{IsLine, IsHead, HasBox, BoxesStateUnion, PiecesStateUnion, BlanksStateNothing, FirstWrongLine, TwoRooms}
+use Rattle.evm_text.specs.Lines.{is_lf, lines, lines_of_parts, without_cr, text_of}
 use Rattle.evm_text.specs.Words.{words}
 use Rattle.evm_text.specs.Numbers.{number}
 use Rattle.evm_formats.specs.declared.boxes.BoxFileError.{BoxFileError}

@@ -1,10 +1,10 @@
 -- What follows from the definition of box files.
-use Rattle.std.specs.Prelude.{◌≡◌, ℕ, ◌+◌, ◌*◌, true, false, List, [], ◌∷◌, ◌++◌, flat_map, map, length, Some, Ok, Err, ℤ, pos, codes, All}
+use Rattle.std.specs.Prelude.{◌≡◌, ℕ, ◌+◌, ◌*◌, true, false, List, [], ◌∷◌, ◌++◌, map, length, Some, Ok, Err, ℤ, pos, codes, All}
 use Rattle.evm_cells.specs.Booleans.{or_cells}
 use Rattle.evm_cells.specs.Boxes.{box_cells, IsBox}
 use Rattle.evm_cells.specs.Examples.{plane}
 use Rattle.evm_cells.specs.Unions.{Ends, union_of}
-use Rattle.evm_text.specs.Lines.{is_lf, without_cr}
+use Rattle.evm_text.specs.Lines.{is_lf, without_cr, text_of}
 use Rattle.evm_text.specs.Words.{words}
 use Rattle.evm_formats.specs.BoxFile.{head_dim, is_skipped, just_numbers, boxes_of_line, boxes_of_lines, file_cells}
 use Rattle.evm_formats.specs.declared.boxes.BoxFileError.{BoxFileError}
@@ -12,10 +12,6 @@ use Rattle.evm_formats.specs.declared.boxes.BoxFileError.{BoxFileError}
 -- a line has no line feed
 abbrev pub IsLine : List ℕ → Type 0
 IsLine line = All (λ b. is_lf b ≡ false) line
-
--- a text of lines, each with a line feed after it
-abbrev pub text_of : List (List ℕ) → List ℕ
-text_of ls = flat_map (λ line. line ++ 10 ∷ []) ls
 
 -- a line 1 that states this dimension
 pub record IsHead (dim : ℕ) (line : List ℕ) : Type 0 where

@@ -11,7 +11,8 @@ use Rattle.evm_script.specs.Words.{is_name, keeps_nums, line_max}
 use Rattle.evm_script.specs.Shapes.{of_pair, of_three}
 use Rattle.evm_script.specs.Formulas.{formula_of}
 use Rattle.evm_script.specs.Line.{command, command_of_words, form_of, or_syntax}
-use Rattle.evm_script.specs.Printed.{spaced, printed, formula_words, load_words, save_words, FormulaKeepsRules, FormKeepsRules, KeepsRules, IsReadAgain}
+use Rattle.evm_text.specs.Spaced.{spaced}
+use Rattle.evm_script.specs.Printed.{printed, formula_words, load_words, save_words, FormulaKeepsRules, FormKeepsRules, KeepsRules, IsReadAgain}
 use Rattle.evm_script.specs.declared.command.Command.{Command}
 use Rattle.evm_script.specs.declared.command.Command.TheVariants as commands
 use Rattle.evm_script.specs.declared.command.LineError.TheVariants.{Long}

@@ -12,7 +12,8 @@ use Rattle.std.specs.Fmt.{signed_decimal}
 use Rattle.evm_text.specs.Lines.{without_cr}
 use Rattle.evm_text.specs.Words.{is_blank, is_filled, words}
 use Rattle.evm_script.specs.Words.{line_max}
-use Rattle.evm_script.specs.Printed.{spaced, formula_words}
+use Rattle.evm_text.specs.Spaced.{spaced}
+use Rattle.evm_script.specs.Printed.{formula_words}
 use Rattle.evm_script.specs.declared.formula.Formula.{Formula}
 use Rattle.evm_script.specs.declared.formula.Formula.TheVariants as formulas
 

@@ -1,9 +1,9 @@
 -- The text of a command and of a formula, and which of them a value of the crate's types can be.
 use Rattle.std.specs.Prelude.{ℕ, ◌≡◌, true, List, [], ◌∷◌, map, Some, Ok, codes}
-use Rattle.std.specs.List.{join_with_byte}
 use Rattle.std.specs.Fmt.{signed_decimal}
 use Rattle.evm_outside.specs.Shelves.{is_file_name}
 use Rattle.evm_text.specs.Words.{words}
+use Rattle.evm_text.specs.Spaced.{spaced}
 use Rattle.evm_text.specs.Numbers.{in_number_range}
 use Rattle.evm_script.specs.Words.{is_name, keeps_nums}
 use Rattle.evm_script.specs.Formulas.{formula_of}
@@ -16,10 +16,6 @@ use Rattle.evm_script.specs.declared.files.SaveForm.{SaveForm}
 use Rattle.evm_script.specs.declared.files.SaveForm.TheVariants as saves
 use Rattle.evm_script.specs.declared.formula.Formula.{Formula}
 use Rattle.evm_script.specs.declared.formula.Formula.TheVariants as formulas
-
--- words with one space between each two
-abbrev pub spaced : List (List ℕ) → List ℕ
-spaced = join_with_byte 32
 
 -- the words of a formula, as they stand after `def NAME`; each number in plain decimal
 abbrev pub formula_words : Formula → List (List ℕ)

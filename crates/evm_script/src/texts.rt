@@ -6,7 +6,7 @@ ghost use Rattle.std.specs.Fmt.{signed_decimal};
 ghost use Rattle.evm_outside.specs.Shelves.{is_file_name};
 ghost use Rattle.evm_text.specs.Numbers.{in_number_range};
 ghost use Rattle.evm_script.specs.Words.{is_name, keeps_nums};
-ghost use Rattle.evm_script.specs.Printed.{spaced};
+ghost use Rattle.evm_text.specs.Spaced.{spaced};
 
 use super::command::NoMemory;
 use super::files::FileName;

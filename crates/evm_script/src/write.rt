@@ -6,7 +6,8 @@ ghost use Rattle.evm_text.specs.Words.{words};
 ghost use Rattle.evm_script.specs.Words.{is_name};
 ghost use Rattle.evm_script.specs.Formulas.{formula_of};
 ghost use Rattle.evm_script.specs.Line.{command as line_command};
-ghost use Rattle.evm_script.specs.Printed.{printed, spaced, formula_words, load_words, save_words, FormulaKeepsRules, FormKeepsRules, KeepsRules, IsReadAgain, IsFormulaAgain};
+ghost use Rattle.evm_text.specs.Spaced.{spaced};
+ghost use Rattle.evm_script.specs.Printed.{printed, formula_words, load_words, save_words, FormulaKeepsRules, FormKeepsRules, KeepsRules, IsReadAgain, IsFormulaAgain};
 ghost use Rattle.evm_script.specs.declared.command.Command as commands;
 ghost use Rattle.evm_script.specs.declared.formula.Formula as formulas;
 

@@ -1,7 +1,8 @@
 -- The lines of a list.
 use Rattle.std.specs.Prelude.{ℕ, List, [], Option, None, Some, codes}
 use Rattle.std.specs.List.{join_with_byte}
-use Rattle.evm_script.specs.Printed.{spaced, formula_words}
+use Rattle.evm_text.specs.Spaced.{spaced}
+use Rattle.evm_script.specs.Printed.{formula_words}
 use Rattle.evm_script.specs.declared.formula.Formula.{Formula}
 use Rattle.evm_model.specs.Scene.{Entry}
 use Rattle.evm_model.specs.Replies.{line_of, entry_words}

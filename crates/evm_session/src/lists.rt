@@ -1,7 +1,8 @@
 //! The list of all names.
 
 ghost use Rattle.std.specs.Prelude.{◌≡◌, option_map};
-ghost use Rattle.evm_script.specs.Printed.{spaced, formula_words};
+ghost use Rattle.evm_text.specs.Spaced.{spaced};
+ghost use Rattle.evm_script.specs.Printed.{formula_words};
 ghost use Rattle.evm_model.specs.Scene.{entry_of};
 ghost use Rattle.evm_model.specs.Replies.{entries_text};
 ghost use Rattle.evm_model.specs.Files.{no_files};

@@ -1,5 +1,5 @@
 -- The lines of a text.
-use Rattle.std.specs.Prelude.{ℕ, ◌-◌, Bool, nat_eq, if◌then◌else◌, List, [], ◌∷◌, length, take, slice_index}
+use Rattle.std.specs.Prelude.{ℕ, ◌-◌, Bool, nat_eq, if◌then◌else◌, List, [], ◌∷◌, ◌++◌, flat_map, length, take, slice_index}
 use Rattle.std.specs.List.{slice_split}
 
 -- a line feed
@@ -24,3 +24,7 @@ lines text = lines_of_parts (slice_split is_lf text)
 -- a line without the one carriage return at its end
 abbrev pub without_cr : List ℕ → List ℕ
 without_cr line = if nat_eq (slice_index line (length line - 1)) 13 then take (length line - 1) line else line
+
+-- a text of lines, each with a line feed after it
+abbrev pub text_of : List (List ℕ) → List ℕ
+text_of ls = flat_map (λ line. line ++ 10 ∷ []) ls

@@ -1,6 +1,6 @@
 use Rattle.std.proofs.Common.{◌<◌, ◌++◌, ◌∷◌, [], length, arith, ap₂, sym, ◌∙◌}
 use Rattle.evm_cells.specs.Unions.{Ends}
-use Rattle.evm_box_writer.specs.BoxText.{box_line}
+use Rattle.evm_formats.specs.BoxText.{box_line}
 use Rattle.evm_box_writer.proofs.Lines.{lines_more}
 use Rattle.evm_box_writer.proofs.put_boxes.Goals as goal
 

@@ -1,6 +1,6 @@
 use Rattle.std.proofs.Common.{◌≡◌, ◌++◌, take, map}
-use Rattle.evm_formats.specs.BoxLaws.{text_of}
-use Rattle.evm_box_writer.specs.BoxText.{box_line}
+use Rattle.evm_text.specs.Lines.{text_of}
+use Rattle.evm_formats.specs.BoxText.{box_line}
 use Rattle.evm_box_writer.proofs.put_boxes.Given as goal
 
 abbrev pub invariant-loop-index : goal.invariant-loop-index

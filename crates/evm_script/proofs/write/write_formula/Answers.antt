@@ -1,7 +1,8 @@
 use Rattle.std.proofs.Common.{◌++◌, ◌∙◌, ap, List, ℕ}
 use Rattle.evm_text.specs.Words.{words}
 use Rattle.evm_script.specs.Formulas.{formula_of}
-use Rattle.evm_script.specs.Printed.{spaced, formula_words}
+use Rattle.evm_text.specs.Spaced.{spaced}
+use Rattle.evm_script.specs.Printed.{formula_words}
 use Rattle.evm_script.proofs.FormulasAgain.{formula_again}
 use Rattle.evm_script.proofs.write.write_formula.Goals as goal
 

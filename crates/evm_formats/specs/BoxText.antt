@@ -2,8 +2,8 @@
 use Rattle.std.specs.Prelude.{ℕ, ℤ, pos, List, [], ◌∷◌, ◌++◌, map, codes}
 use Rattle.std.specs.Fmt.{signed_decimal}
 use Rattle.evm_cells.specs.Unions.{Ends}
-use Rattle.evm_formats.specs.BoxLaws.{text_of}
-use Rattle.evm_script.specs.Printed.{spaced}
+use Rattle.evm_text.specs.Lines.{text_of}
+use Rattle.evm_text.specs.Spaced.{spaced}
 use Rattle.evm_partition.specs.Partition.{partition}
 
 -- line 1: the two words of the format and the dimension
