@@ -11,6 +11,7 @@ mod slices;
 mod turns;
 
 pub use clips::clip;
+pub use order::reduced;
 pub use prisms::lift;
 pub use projections::project;
 pub use shifts::{ShapeError, shift};

@@ -59,8 +59,9 @@ fn append_unpaired(out: &mut Vec<i32>, rows: &[&[i32]]) -> Result<(), AllocError
     Ok(())
 }
 
-/// The rows of `flat` that occur an odd number of times, ascending. Takes memory for a reference a row, and for the answer.
-pub(crate) fn reduced(alloc: Global, flat: &[i32], width: usize) -> Result<Vec<i32>, AllocError>
+/// The rows of `flat`, each of `width` numbers, that occur an odd number of times, ascending. Takes memory for a reference a row, and
+/// for the answer. The one error is want of memory.
+pub fn reduced(alloc: Global, flat: &[i32], width: usize) -> Result<Vec<i32>, AllocError>
     requires some { 0 < width }
     requires narrow { width ≤ 6 }
     requires whole { length flat.now % width ≡ 0 }
