@@ -1,0 +1,2 @@
+//! The parts of a solid: what hangs together by faces of cells.
+#![tactic(auto)]
