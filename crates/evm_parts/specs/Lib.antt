@@ -1,3 +1,4 @@
 pub mod Neighbours
 pub mod Labels
 pub mod Laws
+pub mod Links
