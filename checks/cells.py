@@ -21,8 +21,9 @@ MOST_CELLS = 2_000_000
 FORMS = [form.split() for form in """
 input NAME NUMBER; drop NAME; list; show NAME; content NAME; boundary NAME
 toggle NAME NUMBERS; add NAME NUMBERS; cut NAME NUMBERS; at NAME NUMBERS; point NAME NUMBERS
-section NAME NUMBER NUMBER; project NAME NUMBER
-load NAME evm FILE; load NAME boxes FILE; load NAME pgm NUMBER FILE; load NAME y4m NUMBER FILE; save NAME evm FILE
+section NAME NUMBER NUMBER; project NAME NUMBER; parts NAME; faces NAME NUMBER
+load NAME evm FILE; load NAME boxes FILE; load NAME pgm NUMBER FILE; load NAME y4m NUMBER FILE
+save NAME evm FILE; save NAME boxes FILE; save NAME faces FILE; save NAME obj FILE
 def NAME or NAME NAME; def NAME and NAME NAME; def NAME sub NAME NAME; def NAME xor NAME NAME
 def NAME box NUMBER NUMBERS; def NAME shift NAME NUMBERS; def NAME clip NAME NUMBERS; def NAME mirror NAME NUMBER
 def NAME swap NAME NUMBER NUMBER; def NAME slice NAME NUMBER NUMBER; def NAME proj NAME NUMBER
@@ -116,6 +117,79 @@ def cells_of_vertices(rows, dim):
         places = {with_at(rest, axis, number) for rest, heights in lines.items()
                   for low, high in zip(sorted(heights)[::2], sorted(heights)[1::2]) for number in range(low, high)}
     return places
+
+
+def parts(cells):
+    """The sets that hang together by faces of cells, in the order of their least cells."""
+    left, found = set(cells), []
+    for first in sorted(cells):
+        if first not in left:
+            continue
+        part, border = set(), [first]
+        left.discard(first)
+        while border:
+            cell = border.pop()
+            part.add(cell)
+            near = {moved(cell, axis, by) for axis in range(len(cell)) for by in (-1, 1)} & left
+            left -= near
+            border.extend(near)
+        found.append(part)
+    return found
+
+
+def partition(cells, dim):
+    """The boxes of the stated partition, each by its two corners: runs of equal sections, and these cut in the same way."""
+    if dim == 0:
+        return [((), ())] if cells else []
+    boxes, heights = [], sorted({cell[0] for cell in cells})
+    sections = {height: slice_cells(cells, 0, height) for height in heights}
+    for low in heights:
+        if sections.get(low - 1) == sections[low]:
+            continue
+        high = low
+        while sections.get(high) == sections[low]:
+            high += 1
+        boxes += [((low, *a), (high, *b)) for a, b in partition(sections[low], dim - 1)]
+    return sorted(boxes)
+
+
+def faces(cells, axis):
+    """For each height of an axis at which the section changes: the height, what falls there, and what rises."""
+    heights = sorted({cell[axis] + by for cell in cells for by in (0, 1)})
+    sides = [(height, slice_cells(cells, axis, height - 1), slice_cells(cells, axis, height)) for height in heights]
+    return [(height, below - above, above - below) for height, below, above in sides if below != above]
+
+
+def face_boxes(cells, dim):
+    """The boxes of all faces: the axis, the height, `f` or `r`, and the two corners on the other axes."""
+    return [(axis, height, side, low, high) for axis in range(dim) for height, falling, rising in faces(cells, axis)
+            for side, face in (("f", falling), ("r", rising)) for low, high in partition(face, dim - 1)]
+
+
+def text(lines):
+    return "".join(" ".join(map(str, line)) + "\n" for line in lines).encode()
+
+
+# Files: what `save` writes
+
+def box_file(cells, dim):
+    return text([("evm-boxes", 1, dim), *(low + high for low, high in partition(cells, dim))])
+
+
+def face_file(cells, dim):
+    return text([("evm-faces", 1, dim), *((axis + 1, at, side, *low, *high) for axis, at, side, low, high in face_boxes(cells, dim))])
+
+
+def obj_file(cells, dim):
+    polygons = []
+    for axis, at, side, (a, b), (c, d) in face_boxes(cells, dim):
+        corners = [(a, b), (c, b), (c, d), (a, d)]
+        if (side == "f") == (axis == 1):
+            corners = [corners[k] for k in (0, 3, 2, 1)]
+        polygons.append([with_at(corner, axis, at) for corner in corners])
+    points = sorted({corner for polygon in polygons for corner in polygon})
+    number = {point: k + 1 for k, point in enumerate(points)}
+    return text([("v", *point) for point in points] + [("f", *map(number.get, polygon)) for polygon in polygons])
 
 
 # Files: each reader answers the cells, or None where the bytes are not of the form
@@ -219,6 +293,7 @@ def read_evm(data, dim, _threshold):
 
 
 READERS = {"boxes": read_boxes, "pgm": read_pgm, "y4m": read_y4m, "evm": read_evm}
+WRITERS = {"evm": evm_file, "boxes": box_file, "faces": face_file, "obj": obj_file}
 
 
 # Lines
@@ -352,8 +427,9 @@ class Session:
         refuse_if(cells is None, "form")
         return self.put(name, dim, None, cells)
 
-    def save(self, name, _form, file):
-        self.saved[file] = evm_file(self.cells[name], self.dim[name])
+    def save(self, name, form, file):
+        refuse_if(form == "obj" and self.dim[name] != 3, "dim")
+        self.saved[file] = WRITERS[form](self.cells[name], self.dim[name])
         return [f"ok {len(self.saved[file])}"]
 
     # `def` is a word of Python's own, so the method is reached by its name alone.
@@ -396,6 +472,19 @@ class Session:
     def project(self, name, axis):
         refuse_if(not 1 <= int(axis) <= self.dim[name], "dim")
         return shown(project_cells(self.cells[name], int(axis) - 1), self.dim[name] - 1)
+
+    def parts(self, name):
+        found = parts(self.cells[name])
+        lines = [f"ok {len(found)}"]
+        for part in found:
+            rows = vertices(part, self.dim[name])
+            lines += [f"part {len(rows)} {len(part)}"] + [" ".join(map(str, row)) for row in rows]
+        return lines
+
+    def faces(self, name, axis):
+        refuse_if(not 1 <= int(axis) <= self.dim[name], "dim")
+        cuts = faces(self.cells[name], int(axis) - 1)
+        return [f"ok {len(cuts)}"] + [f"{height} {len(rising)} {len(falling)}" for height, falling, rising in cuts]
 
     def at(self, name, *words):
         cell = tuple(int(word) for word in words)

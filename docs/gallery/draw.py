@@ -1,16 +1,19 @@
 #!/usr/bin/env python3
 """Draws the pictures of this folder from what the program answers to the scripts beside them; standard library only.
 
-    python3 docs/gallery/draw.py [FOLDER]      writes union.svg, scan.svg, mask.svg, vertices.svg; without words, beside this script
+    python3 docs/gallery/draw.py [FOLDER]      writes NAME.svg for each NAME of PICTURES; without words, beside this script
 
-Each script is run in the folder examples/, where the files lie that it loads. Everything that is drawn comes from vertices: in the
-plane each of them ends one vertical and one horizontal edge, so they pair up along both axes, and the edges close to loops.
+Each script is run in a copy of the folder examples/, where the files lie that it loads. What is drawn comes from vertices: in the
+plane each of them ends one vertical and one horizontal edge, so they pair up along both axes, and the edges close to loops. The mesh
+comes from the OBJ file that its script saves.
 """
 import collections
 import fractions
 import itertools
 import pathlib
+import shutil
 import sys
+import tempfile
 
 HERE = pathlib.Path(__file__).resolve().parent
 EXAMPLES = HERE.parent.parent / "examples"
@@ -119,9 +122,9 @@ class Picture:
         return head + "\n".join(self.parts) + "\n</svg>\n"
 
 
-# The pictures: each from a dictionary that gives the reply to each command of its script
+# The pictures: each from a dictionary that gives the reply to each command of its script, and one of the files that the script saved
 
-def union(said):
+def union(said, _files):
     house, annex, both = (rows(said[f"show {name}"]) for name in ("house", "annex", "union"))
     picture = Picture(800, 640, "The union of two plans")
     place = lambda x, y: (40 + 10 * x, 430 - 10 * y)
@@ -154,7 +157,7 @@ def panel(picture, place, width, height, across, down):
     picture.text(left - 36, (top + bottom) / 2 + 4, down, size=12, anchor="middle")
 
 
-def scan(said):
+def scan(said, _files):
     picture = Picture(820, 560, "A section through a scan, and one across it")
     soft, dense = {"fill": SAND, "stroke": INK, "stroke_width": 0.8}, {"fill": RED, "stroke": INK, "stroke_width": 0.8}
     first, second = (lambda x, y: (70 + 10 * x, 100 + 10 * y)), (lambda y, z: (470 + 10 * y, 100 + 10 * z))
@@ -176,7 +179,7 @@ def scan(said):
     return picture
 
 
-def mask(said):
+def mask(said, _files):
     picture = Picture(900, 620, "A mask over time: every second frame of a video")
     frame = [[(0, 0), (32, 0), (32, 24), (0, 24)]]
     area = loops(rows(said["show area"]))
@@ -252,7 +255,7 @@ def face(cell, axis, side):
     return found
 
 
-def vertices(said):
+def vertices(said, _files):
     points = rows(said["show solid"])
     solid = cells(points)
     picture = Picture(820, 680, "The extreme vertices of a solid")
@@ -285,14 +288,101 @@ def vertices(said):
     return picture
 
 
-PICTURES = {"union": union, "scan": scan, "mask": mask, "vertices": vertices}
+def polygons_of(text):
+    """The faces of an OBJ file, each as its corners in order."""
+    lines = [line.split() for line in text.decode().splitlines()]
+    points = [tuple(map(int, words[1:])) for words in lines if words[0] == "v"]
+    return [[points[int(word) - 1] for word in words[1:]] for words in lines if words[0] == "f"]
 
 
-def pictures(answers=replies):
-    """Yields the name and the SVG of each picture. `answers` is called as the driver's `replies` is."""
+def outside(polygon):
+    """The axis across a face, and the side on which it is seen: 1 towards greater coordinates, -1 towards lesser ones."""
+    a, b, c = polygon[:3]
+    u, v = ([q - p for p, q in zip(*pair)] for pair in ((a, b), (b, c)))
+    normal = [u[k - 2] * v[k - 1] - u[k - 1] * v[k - 2] for k in range(3)]
+    axis = next(k for k in range(3) if normal[k])
+    return axis, 1 if normal[axis] > 0 else -1
+
+
+def squares(polygon):
+    """The unit squares of a face that is seen, each with how near to the eye it is and with those of its sides that the face ends at."""
+    axis, side = outside(polygon)
+    low, high = (tuple(map(bound, zip(*polygon))) for bound in (min, max))
+    behind = tuple(-1 if k == axis and side > 0 else 0 for k in range(3))
+    for cell in itertools.product(*(range(a, max(b, a + 1)) for a, b in zip(low, high))):
+        solid = tuple(map(sum, zip(cell, behind)))
+        corners = face(solid, axis, side)
+        ends = [(p, q) for p, q in zip(corners, corners[1:] + corners[:1])
+                if any(k != axis and p[k] == q[k] and p[k] in (low[k], high[k]) for k in range(3))]
+        yield sum(map(int.__mul__, solid, VIEW)), corners, ends, SHADES[axis, side]
+
+
+def mesh(said, files):
+    polygons = polygons_of(files["half.obj"])
+    picture = Picture(820, 620, "A mesh: the dense core of a scan, cut open")
+    place = lambda *point: tuple(0.5 * k + shift for k, shift in zip(on_paper(*point), (-190, 415)))
+    seen = [square for polygon in polygons if outside(polygon) in SHADES for square in squares(polygon)]
+    for _, corners, ends, shade in sorted(seen):
+        picture.polygons([corners], place, fill=shade, stroke=shade, stroke_width=0.6)
+        picture.segments(ends, place, stroke=INK, stroke_width=0.7, stroke_linecap="round")
+    picture.legend(40, 540, [
+        ("box", {"fill": SHADES[1, -1], "stroke": INK}, f'{len(polygons)} rectangles, {len(set(itertools.chain(*polygons)))} vertices'),
+        ("box", {"fill": "none", "stroke": PAPER}, f'they enclose {number(said["content half"])} cells; surface {number(said["boundary half"])}'),
+    ])
+    return picture
+
+
+PART_SHADES = ["#7ba7cf", "#eab464", "#c8372d", "#8ab17d"]
+
+
+def shaded(colour, light):
+    return "#" + "".join(f"{round(int(colour[k:k + 2], 16) * light):02x}" for k in (1, 3, 5))
+
+
+def parts_of(reply):
+    """The parts of the reply to `parts`, each by its vertices, and their contents."""
+    found, left = [], reply[1:]
+    while left:
+        _, count, content = left[0].split()
+        found.append((rows([reply[0], *left[1:int(count) + 1]]), int(content)))
+        left = left[int(count) + 1:]
+    return found
+
+
+def parts(said, _files):
+    found = parts_of(said["parts scan"])
+    picture = Picture(820, 640, "The parts of a scan")
+    place = lambda *point: tuple(0.42 * k + shift for k, shift in zip(on_paper(*point), (-10, 355)))
+    solids = [cells(points) for points, _ in found]
+    whole = set().union(*solids)
+    cubes = sorted((sum(map(int.__mul__, cell, VIEW)), cell, part) for part, solid in enumerate(solids) for cell in solid)
+    for _, cell, part in cubes:
+        for (axis, side), light in zip(SHADES, (0.78, 0.9, 1)):
+            if cell[:axis] + (cell[axis] + side,) + cell[axis + 1:] not in whole:
+                fill = shaded(PART_SHADES[part], light)
+                picture.polygons([face(cell, axis, side)], place, fill=fill, stroke=shaded(fill, 0.85), stroke_width=0.5)
+    picture.legend(40, 520, [("box", {"fill": PART_SHADES[part], "stroke": INK}, f"{content} cells, {len(points)} extreme vertices")
+                             for part, (points, content) in enumerate(found)])
+    return picture
+
+
+PICTURES = {"union": union, "scan": scan, "mask": mask, "vertices": vertices, "mesh": mesh, "parts": parts}
+
+
+def run(name, answers=replies):
+    """The commands of a picture's script with their replies, and the files that it saved. `answers` is called as the driver's `replies` is."""
+    with tempfile.TemporaryDirectory() as folder:
+        shutil.copytree(EXAMPLES, folder, dirs_exist_ok=True)
+        said = list(answers((HERE / f"{name}.evm").read_text().splitlines(), folder))
+        saved = [path for path in pathlib.Path(folder).iterdir() if path.is_file() and not (EXAMPLES / path.name).exists()]
+        return said, {path.name: path.read_bytes() for path in saved}
+
+
+def pictures():
+    """Yields the name and the SVG of each picture."""
     for name, draw in PICTURES.items():
-        script = (HERE / f"{name}.evm").read_text().splitlines()
-        yield name, draw(dict(answers(script, EXAMPLES))).svg()
+        said, files = run(name)
+        yield name, draw(dict(said), files).svg()
 
 
 if __name__ == "__main__":
