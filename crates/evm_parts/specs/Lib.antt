@@ -2,3 +2,4 @@ pub mod Neighbours
 pub mod Labels
 pub mod Laws
 pub mod Links
+pub mod PartLists
