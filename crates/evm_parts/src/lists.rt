@@ -1,5 +1,5 @@
 //! Lists of the parts of a solid as flat numbers.
-ghost use Rattle.std.specs.Prelude.{◌≡◌, ◌<◌, [], length, slice_index_or};
+ghost use Rattle.std.specs.Prelude.{◌≡◌, ◌<◌, [], ◌∷◌, length, slice_index, slice_index_or};
 ghost use Rattle.evm_rows.specs.View.{vertices_of};
 ghost use Rattle.evm_parts.specs.PartLists.{AreParts, parts_from};
 
@@ -26,6 +26,14 @@ impl Model for Parts {
     ghost view = { λ p. record { dim = p.dim; parts = parts_from p.dim 0 p.flat.items p.ends.items } };
 
     ghost invariant = { λ p. AreParts p.dim p.flat.items p.ends.items };
+}
+
+// Where a part begins: at 0, or where the part before it ends.
+fn start_of(ends: &[usize], index: usize) -> usize
+    requires { index < length ends.now }
+    ensures { result ≡ slice_index (0 ∷ ends.now) index }
+{
+    if index == 0 { 0 } else { ends[index - 1] }
 }
 
 impl Parts {
@@ -58,9 +66,11 @@ impl Parts {
         ensures dim { (vertices_of result).dim ≡ self.now.dim }
         ensures rows { (vertices_of result).rows ≡ slice_index_or self.now.parts index [] }
     {
-        let start = if index == 0 { 0 } else { self.ends[index - 1] };
+        let ends = self.ends.as_slice();
+        let start = start_of(ends, index);
+        let end = ends[index];
         Rows {
-            flat: &self.flat[start..self.ends[index]],
+            flat: &self.flat[start..end],
             width: self.dim,
             skip: 0,
         }
