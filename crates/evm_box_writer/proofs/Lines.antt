@@ -21,9 +21,9 @@ use Rattle.evm_cells.proofs.Universe.{point_parts}
 use Rattle.evm_formats.specs.BoxFile.{file_cells, head_dim, is_skipped, just_numbers}
 use Rattle.evm_formats.specs.BoxLaws.{IsLine, IsHead, HasBox}
 use Rattle.evm_formats.proofs.BoxLaws.{boxes}
-use Rattle.evm_text.specs.Spaced.{spaced}
-use Rattle.evm_script.proofs.Spaced.{is_plain, words_spaced, no_cr_spaced}
-use Rattle.evm_script.proofs.Decimals.{numbers_again, number_again, plain_numbers, plain_number}
+use Rattle.evm_text.specs.Spaced.{spaced, behind_spaces}
+use Rattle.evm_text.proofs.Spaced.{is_plain, words_spaced, no_cr_spaced, word_and_numbers}
+use Rattle.evm_text.proofs.Decimals.{numbers_again, number_again, plain_numbers, plain_number}
 use Rattle.evm_partition.specs.Partition.{partition}
 use Rattle.evm_partition.proofs.Within.{boxes_have_room, union_of_partition}
 use Rattle.evm_formats.specs.BoxText.{head_line, box_line, box_file}
@@ -111,23 +111,18 @@ head_has_dim n low high =
 
 -- ---- the text
 
-spaced_numbers : (w : List ℕ) (zs : List ℤ) → spaced (w ∷ map signed_decimal zs) ≡ w ++ flat_map (λ n. 32 ∷ signed_decimal n) zs
-spaced_numbers w [] = sym (append-nil w)
-spaced_numbers w (z ∷ zs) = ap (λ t. w ++ 32 ∷ t) (spaced_numbers (signed_decimal z) zs)
-
 -- the line of a box, number by number
 pub line_written : (x : ℤ) (lo rest hi : List ℤ) (start one some all done : List ℕ) → lo ≡ x ∷ rest → one ≡ start ++ signed_decimal x
-    → some ≡ one ++ flat_map (λ n. 32 ∷ signed_decimal n) rest → all ≡ some ++ flat_map (λ n. 32 ∷ signed_decimal n) hi → done ≡ all ++ 10 ∷ []
+    → some ≡ one ++ behind_spaces rest → all ≡ some ++ behind_spaces hi → done ≡ all ++ 10 ∷ []
     → done ≡ start ++ (box_line (record { lo = lo; hi = hi }) ++ 10 ∷ [])
 line_written x lo rest hi start one some all done e a b c d =
-    let f : ℤ → List ℕ = λ n. 32 ∷ signed_decimal n in
-    let line : box_line (record { lo = lo; hi = hi }) ≡ signed_decimal x ++ flat_map f rest ++ flat_map f hi =
-    ap (λ t. spaced (map signed_decimal (t ++ hi))) e ∙ spaced_numbers (signed_decimal x) (rest ++ hi)
-    ∙ ap (λ t. signed_decimal x ++ t) (flat_map-append f rest hi) ∙ sym (append_assoc (signed_decimal x) (flat_map f rest) (flat_map f hi)) in
+    let line : box_line (record { lo = lo; hi = hi }) ≡ signed_decimal x ++ behind_spaces rest ++ behind_spaces hi =
+    ap (λ t. spaced (map signed_decimal (t ++ hi))) e ∙ word_and_numbers (signed_decimal x) (rest ++ hi)
+    ∙ ap (λ t. signed_decimal x ++ t) (flat_map-append (λ n. 32 ∷ signed_decimal n) rest hi) ∙ sym (append_assoc (signed_decimal x) (behind_spaces rest) (behind_spaces hi)) in
     d ∙ ap (λ t. t ++ 10 ∷ [])
-    (c ∙ ap (λ t. t ++ flat_map f hi) (b ∙ ap (λ t. t ++ flat_map f rest) a)
-    ∙ ap (λ t. t ++ flat_map f hi) (append_assoc start (signed_decimal x) (flat_map f rest))
-    ∙ append_assoc start (signed_decimal x ++ flat_map f rest) (flat_map f hi)
+    (c ∙ ap (λ t. t ++ behind_spaces hi) (b ∙ ap (λ t. t ++ behind_spaces rest) a)
+    ∙ ap (λ t. t ++ behind_spaces hi) (append_assoc start (signed_decimal x) (behind_spaces rest))
+    ∙ append_assoc start (signed_decimal x ++ behind_spaces rest) (behind_spaces hi)
     ∙ ap (λ t. start ++ t) (sym line))
     ∙ append_assoc start (box_line (record { lo = lo; hi = hi })) (10 ∷ [])
 

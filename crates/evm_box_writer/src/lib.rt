@@ -4,8 +4,6 @@
 #![tactic(auto)]
 
 ghost use Rattle.std.specs.Prelude.{◌≡◌, ◌+◌, ◌<◌, ◌≤◌, ◌++◌, [], ◌∷◌, Ok, IfOk, OnOk, length, map};
-ghost use Rattle.std.specs.List.{flat_map};
-ghost use Rattle.std.specs.Fmt.{signed_decimal};
 ghost use Rattle.evm_rows.specs.Rows.{cells_of};
 ghost use Rattle.evm_formats.specs.BoxFile.{file_cells};
 ghost use Rattle.evm_text.specs.Lines.{text_of};
@@ -13,6 +11,7 @@ ghost use Rattle.evm_formats.specs.BoxText.{box_file, box_line, head_line};
 
 use evm_partition::{Boxes, split};
 use evm_rows::{NoMemory, Solid};
+use evm_text::{append_number, append_numbers};
 use std::alloc::Global;
 use std::io::Write;
 
@@ -65,30 +64,10 @@ fn put_box(text: &mut Vec<u8>, lo: &[i32], hi: &[i32]) -> Result<(), NoMemory>
         (text.new.items ≡ text.old.items
         ++ (box_line (record { lo = lo.now; hi = hi.now }) ++ 10 ∷ [])) }
 {
-    put_number(text, lo[0])?;
-    put_numbers(text, &lo[1..])?;
-    put_numbers(text, hi)?;
+    append_number(text, lo[0])?;
+    append_numbers(text, &lo[1..])?;
+    append_numbers(text, hi)?;
     text.push(b'\n')?;
-    Ok(())
-}
-
-/// Appends a number.
-fn put_number(text: &mut Vec<u8>, number: i32) -> Result<(), NoMemory>
-    ensures { OnOk result (text.new.items ≡ text.old.items ++ signed_decimal number) }
-{
-    write!(text, "{number}").map_err(|_| NoMemory)
-}
-
-/// Appends each number with a space before it.
-#[tactic(auto, using(evm_script::proofs::Spaced::numbers_more))]
-fn put_numbers(text: &mut Vec<u8>, numbers: &[i32]) -> Result<(), NoMemory>
-    ensures { OnOk result
-        (text.new.items ≡ text.old.items ++ flat_map (λ n. 32 ∷ signed_decimal n) numbers.now) }
-{
-    for number in numbers {
-        text.push(b' ')?;
-        put_number(text, *number)?;
-    }
     Ok(())
 }
 

@@ -19,7 +19,8 @@ use Rattle.evm_script.specs.declared.command.LineError.TheVariants.{Long}
 use Rattle.evm_script.specs.declared.files.LoadForm.{LoadForm}
 use Rattle.evm_script.specs.declared.files.SaveForm.{SaveForm}
 use Rattle.evm_script.specs.declared.formula.Formula.{Formula}
-use Rattle.evm_script.proofs.Spaced.{is_plain, words_spaced, no_cr_spaced, short_spaced}
+use Rattle.evm_text.proofs.Spaced.{is_plain, words_spaced, no_cr_spaced}
+use Rattle.evm_script.proofs.Spaced.{short_spaced}
 use Rattle.evm_script.proofs.ShapesAgain.{named_plain, one_plain, two_plain, plain_nums, few_nums, name_again, name_number_again, name_two_again, name_numbers_again, zip_again}
 use Rattle.evm_script.proofs.FormulasAgain.{words_of_formula}
 use Rattle.evm_script.proofs.FilesAgain.{words_of_load, words_of_save}

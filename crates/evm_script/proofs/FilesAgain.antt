@@ -12,8 +12,8 @@ use Rattle.evm_script.specs.declared.files.LoadForm.{LoadForm}
 use Rattle.evm_script.specs.declared.files.LoadForm.TheVariants as forms
 use Rattle.evm_script.specs.declared.files.SaveForm.{SaveForm}
 use Rattle.evm_script.specs.declared.files.SaveForm.TheVariants as saves
-use Rattle.evm_script.proofs.Spaced.{is_plain}
-use Rattle.evm_script.proofs.Decimals.{number_again, plain_number}
+use Rattle.evm_text.proofs.Spaced.{is_plain}
+use Rattle.evm_text.proofs.Decimals.{number_again, plain_number}
 use Rattle.evm_script.proofs.ShapesAgain.{plain_more, zip_again}
 
 -- file names are plain words

@@ -8,8 +8,8 @@ use Rattle.evm_script.specs.Formulas.{formula_of, formula_by}
 use Rattle.evm_script.specs.Printed.{formula_words, FormulaKeepsRules, IsFormulaAgain}
 use Rattle.evm_script.specs.declared.formula.Formula.{Formula}
 use Rattle.evm_script.specs.declared.formula.Formula.TheVariants as formulas
-use Rattle.evm_script.proofs.Spaced.{is_plain, words_spaced}
-use Rattle.evm_script.proofs.Decimals.{plain_number}
+use Rattle.evm_text.proofs.Spaced.{is_plain, words_spaced}
+use Rattle.evm_text.proofs.Decimals.{plain_number}
 use Rattle.evm_script.proofs.ShapesAgain.{plain_name, plain_more, named_plain, one_plain, two_plain, plain_nums, few_nums, two_names_again, number_numbers_again, name_number_again, name_two_again, name_three_again, name_numbers_again}
 
 -- what the words of a formula are to a line: plain, few, and read as this formula

@@ -10,8 +10,8 @@ use Rattle.std.proofs.lemmas.Bool.Decides.{nat_tests}
 use Rattle.evm_text.specs.Numbers.{in_number_range, numbers}
 use Rattle.evm_script.specs.Words.{is_name, is_name_byte, is_small_letter, keeps_nums, nums_max, name_max}
 use Rattle.evm_script.specs.Shapes.{name_of, name_number, name_two_numbers, name_three_numbers, name_numbers, two_names, two_numbers, three_numbers, number_numbers, some_numbers}
-use Rattle.evm_script.proofs.Spaced.{is_plain}
-use Rattle.evm_script.proofs.Decimals.{number_again, numbers_again, plain_number, plain_numbers}
+use Rattle.evm_text.proofs.Spaced.{is_plain}
+use Rattle.evm_text.proofs.Decimals.{number_again, numbers_again, plain_number, plain_numbers}
 
 -- names are plain words
 name_bytes_plain : (w : List ℕ) → list_all is_name_byte w ≡ true → list_all (nat_lt 32) w ≡ true

@@ -227,7 +227,7 @@ fn put_number(text: &mut Vec<u8>, number: i64) -> Result<(), NoMemory>
 }
 
 /// Appends each number with a space before it.
-#[tactic(auto, using(crate::proofs::Spaced::numbers_more))]
+#[tactic(auto, using(evm_text::proofs::Spaced::numbers_more))]
 fn put_numbers(text: &mut Vec<u8>, nums: &Nums) -> Result<(), NoMemory>
     ensures text { OnOk result (text.new.items ≡ text.old.items ++ flat_map
         (λ n. 32 ∷ signed_decimal n) nums.now) }

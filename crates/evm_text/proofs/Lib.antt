@@ -1,3 +1,5 @@
 pub mod Digits
 pub mod LineCuts
 pub mod WordCuts
+pub mod Spaced
+pub mod Decimals

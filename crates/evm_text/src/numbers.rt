@@ -1,8 +1,13 @@
-//! Reads numbers in plain decimal.
+//! Reads and writes numbers in plain decimal.
 
-ghost use Rattle.std.specs.Prelude.{◌≡◌, ◌≤◌, ◌<◌, ◌^◌, true, length, neg_ℤ, IfSome};
+ghost use Rattle.std.specs.Prelude.{◌≡◌, ◌≤◌, ◌<◌, ◌^◌, ◌++◌, true, length, pos, neg_ℤ, IfSome, OnOk};
 ghost use Rattle.std.specs.List.{list_all};
+ghost use Rattle.std.specs.Fmt.{signed_decimal};
 ghost use Rattle.evm_text.specs.Numbers.{is_digit, is_digits, digits_value, digits, number, in_number_range};
+ghost use Rattle.evm_text.specs.Spaced.{behind_spaces};
+
+use std::alloc::AllocError;
+use std::io::Write;
 
 /// The most digits of a number.
 pub const DIGITS_MAX: usize = 10;
@@ -72,4 +77,43 @@ fn digits_sum(word: &[u8]) -> u64
         value = value * 10 + u64::from(*b - b'0');
     }
     value
+}
+
+/// Appends a number in plain decimal: its digits, with a `-` before them where it is below zero. It takes memory where the text
+/// has no room left.
+///
+/// # Errors
+///
+/// `AllocError` where there is no memory for the text.
+pub fn append_number(text: &mut Vec<u8>, number: i32) -> Result<(), AllocError>
+    ensures { OnOk result (text.new.items ≡ text.old.items ++ signed_decimal number) }
+{
+    write!(text, "{number}").map_err(|_| AllocError)
+}
+
+/// Appends a count in plain decimal. It takes memory where the text has no room left.
+///
+/// # Errors
+///
+/// `AllocError` where there is no memory for the text.
+pub fn append_count(text: &mut Vec<u8>, count: usize) -> Result<(), AllocError>
+    ensures { OnOk result (text.new.items ≡ text.old.items ++ signed_decimal (pos count)) }
+{
+    write!(text, "{count}").map_err(|_| AllocError)
+}
+
+/// Appends each of the numbers in plain decimal, with a space before it. It takes memory where the text has no room left.
+///
+/// # Errors
+///
+/// `AllocError` where there is no memory for the text.
+#[tactic(auto, using(crate::proofs::Spaced::numbers_more))]
+pub fn append_numbers(text: &mut Vec<u8>, numbers: &[i32]) -> Result<(), AllocError>
+    ensures { OnOk result (text.new.items ≡ text.old.items ++ behind_spaces numbers.now) }
+{
+    for number in numbers {
+        text.push(b' ')?;
+        append_number(text, *number)?;
+    }
+    Ok(())
 }

@@ -1,7 +1,7 @@
 use Rattle.std.proofs.Common.{◌∙◌, ◌++◌, ◌∷◌, List, ℕ, ap, subst, OnOk, ◌≡◌}
 use Rattle.std.specs.List.{flat_map}
 use Rattle.std.specs.Fmt.{signed_decimal}
-use Rattle.evm_script.proofs.Spaced.{after_two}
+use Rattle.evm_text.proofs.Spaced.{after_two}
 use Rattle.evm_script.proofs.texts.put_name_numbers.Goals as goal
 
 pub returns-clause-text : goal.returns-clause-text

@@ -10,7 +10,7 @@ use Rattle.std.proofs.lemmas.Bool.{and_parts, and_from, leb-true, le-leb}
 use Rattle.std.proofs.lemmas.Bool.Decides.{nat_tests}
 use Rattle.evm_text.specs.Numbers.{is_digit, is_digits, digits, digits_value, number, in_number_range, digits_max, numbers, cons_number}
 use Rattle.evm_text.proofs.Digits.{value_more}
-use Rattle.evm_script.proofs.Spaced.{is_plain}
+use Rattle.evm_text.proofs.Spaced.{is_plain}
 
 -- digits that have this value
 pub record HasValue (n : ℕ) (ds : List ℕ) : Type 0 where
