@@ -1,1 +1,3 @@
 pub mod Stretches
+pub mod Floods
+pub mod Meeting
