@@ -1,12 +1,11 @@
 -- The flood of a cell set from one of its cells: what it keeps, and that it is closed under sharing a face.
-use Rattle.std.proofs.Common.{◌≡◌, ℕ, zero, suc, ◌+◌, ◌<◌, ◌≤◌, ◌⊎◌, inl, inr, ⊎_elim, Bool, true, false, ◌&&◌, ◌||◌, List, [], ◌∷◌, filter, length, count_by, ℤ, pos, ◌+ℤ◌, refl, sym, ap, ap₂, ◌∙◌, subst, arith, int_eq}
-use Rattle.std.specs.List.{list_any, list_all}
+use Rattle.std.proofs.Common.{◌≡◌, ℕ, zero, suc, ◌+◌, ◌<◌, ◌≤◌, ◌⊎◌, inl, inr, ⊎_elim, Bool, true, false, ◌&&◌, ◌||◌, List, [], ◌∷◌, length, count_by, ℤ, pos, ◌+ℤ◌, refl, sym, ap, ap₂, ◌∙◌, subst, arith, int_eq}
+use Rattle.std.specs.List.{list_any}
 use Rattle.std.proofs.lemmas.Bool.{false≢true, or_cases, or_left, or_right}
 use Rattle.std.proofs.lemmas.List.Sums.{count_by-le-length}
-use Rattle.evm_cells.specs.Places.{has, same, each, ascending}
-use Rattle.evm_cells.specs.Parts.{share_face, are_next, spread, spread_rounds, flood}
+use Rattle.evm_cells.specs.Places.{has, same, ascending}
+use Rattle.evm_cells.specs.Parts.{share_face, spread, spread_rounds, flood}
 use Rattle.evm_cells.proofs.Xor.{and_first, and_second, and_both}
-use Rattle.evm_cells.proofs.Order.{same_tests}
 use Rattle.evm_cells.proofs.Coords.{eq_sym}
 use Rattle.evm_cells.proofs.Places.{strict_places}
 use Rattle.evm_cells.proofs.Universe.{has-filter, ascending-filter, same_sym}

@@ -1,3 +1,5 @@
 pub mod Stretches
 pub mod Floods
 pub mod Meeting
+pub mod FloodBoxes
+pub mod FloodParts

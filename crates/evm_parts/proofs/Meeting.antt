@@ -1,5 +1,5 @@
 -- Boxes of which cells share a face, and the walk from cell to cell in a box.
-use Rattle.std.proofs.Common.{◌≡◌, ℕ, zero, suc, ◌⊎◌, inl, inr, ⊎_elim, Bool, true, false, ◌&&◌, ◌||◌, List, [], ◌∷◌, ℤ, pos, negsuc, ◌+ℤ◌, ◌-ℤ◌, ◌≤ℤ◌, ◌<ℤ◌, int_le, int_lt, int_eq, refl, sym, ap, ap₂, ◌∙◌, subst, arith}
+use Rattle.std.proofs.Common.{◌≡◌, ℕ, zero, suc, ◌⊎◌, inl, inr, ⊎_elim, true, false, ◌&&◌, List, [], ◌∷◌, ℤ, pos, negsuc, ◌+ℤ◌, ◌-ℤ◌, ◌≤ℤ◌, ◌<ℤ◌, int_le, int_lt, int_eq, refl, sym, ap₂, subst, arith}
 use Rattle.std.proofs.lemmas.Int.{ints as int_facts, by_lt_z}
 use Rattle.std.proofs.lemmas.Bool.{false≢true, or_cases, or_left, or_right}
 use Rattle.evm_cells.specs.Places.{same, each, before}
@@ -30,9 +30,11 @@ inside_is (a ∷ lo) hi [] h = absurd (false≢true h)
 inside_is (a ∷ lo) [] (x ∷ c) h = absurd (false≢true (and_second (int_le a x && each int_le lo c) false h))
 inside_is (a ∷ lo) (b ∷ hi) (x ∷ c) h =
     let u = and_first (int_le a x && each int_le lo c) (int_lt x b && each int_lt c hi) h in
-    let v = and_second (int_le a x && each int_le lo c) (int_lt x b && each int_lt c hi) h in
-    (le_is a x (and_first (int_le a x) (each int_le lo c) u), lt_is x b (and_first (int_lt x b) (each int_lt c hi) v),
-    inside_is lo hi c (and_both (each int_le lo c) (each int_lt c hi) (and_second (int_le a x) (each int_le lo c) u) (and_second (int_lt x b) (each int_lt c hi) v)))
+    let v = and_second (int_le a x && each int_le lo c) (int_lt x b && each int_lt c hi) h in (
+      le_is a x (and_first (int_le a x) (each int_le lo c) u),
+      lt_is x b (and_first (int_lt x b) (each int_lt c hi) v),
+      inside_is lo hi c (and_both (each int_le lo c) (each int_lt c hi) (and_second (int_le a x) (each int_le lo c) u) (and_second (int_lt x b) (each int_lt c hi) v)),
+    )
 
 pub inside_yes : (lo hi c : List ℤ) → IsInside lo hi c → (each int_le lo c && each int_lt c hi) ≡ true
 unfolding each

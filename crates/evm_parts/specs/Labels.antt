@@ -1,5 +1,5 @@
 -- Which boxes of a list hang together, and their labels. Boxes are counted from 0.
-use Rattle.std.specs.Prelude.{◌≡◌, ℕ, ◌<◌, ◌≤◌, ◌==◌, true, ℤ, List, [], ◌∷◌, map, filter, length, get_or, if◌then◌else◌}
+use Rattle.std.specs.Prelude.{◌≡◌, ℕ, ◌<◌, ◌≤◌, ◌==◌, true, List, [], ◌∷◌, filter, length, get_or, if◌then◌else◌}
 use Rattle.std.specs.List.{range_with_len}
 use Rattle.evm_cells.specs.Unions.{Ends}
 use Rattle.evm_parts.specs.Neighbours.{are_neighbours}

@@ -2,8 +2,10 @@
 #![tactic(auto)]
 
 mod components;
+mod laws;
 mod lists;
 mod neighbours;
 
 pub use components::parts;
+pub use laws::parts_by_labels;
 pub use lists::Parts;
