@@ -1,9 +1,9 @@
 //! The shelf over a folder, where opening fails, calls are short or interrupted, and files are long.
 
 use super::super::folder::read_opened;
-use super::super::{FetchError, FolderShelf, PlaceError, Shelf};
+use super::super::{FetchError, FolderShelf, PlaceError, Shelf, Sink, Source, StdSink, StdSource};
 use std::alloc::Allocator;
-use std::fs::{File, Metadata, OpenFile, OpenOptions};
+use std::fs::{File, Metadata, OpenFile, OpenOptions, Permissions};
 use std::io::{ErrorKind, Read, Seek, SeekFrom, Write};
 use std::rt::Files;
 use std::test::Fail;
@@ -72,21 +72,35 @@ impl OpenFile for FakeFile {
     }
 
     fn sync_all(&self) -> io::Result<()> {
-        Err(ErrorKind::Unsupported.into())
+        match &self.file {
+            Some(file) => file.sync_all(),
+            None => Ok(()),
+        }
     }
 
     fn sync_data(&self) -> io::Result<()> {
         Err(ErrorKind::Unsupported.into())
     }
+
+    fn set_permissions(&self, permissions: Permissions) -> io::Result<()> {
+        match &self.file {
+            Some(file) => file.set_permissions(permissions),
+            None => Ok(()),
+        }
+    }
 }
 
-/// What is answered where a file is opened.
-#[derive(Clone, Copy)]
+/// What is answered where a file is looked for, opened or moved.
+#[derive(Clone, Copy, PartialEq)]
 enum Opening {
     /// Nothing, for this reason.
     Refused(ErrorKind),
     /// The file of the folder.
     Slow,
+    /// The file of the folder, and moving it fails.
+    Stuck,
+    /// What stands there is no file, but opening it opens one.
+    NoFile,
 }
 
 /// Files that open so, and do nothing else.
@@ -104,7 +118,7 @@ impl Files for FakeFiles<'_> {
     fn open_file(&self, how: &OpenOptions, path: &str) -> io::Result<FakeFile> {
         let file = match self.opening {
             Opening::Refused(kind) => return Err(kind.into()),
-            Opening::Slow => how.open(self.rt, path)?,
+            _ => how.open(self.rt, path)?,
         };
         Ok(FakeFile {
             file: Some(file),
@@ -117,8 +131,12 @@ impl Files for FakeFiles<'_> {
         Err(ErrorKind::Unsupported.into())
     }
 
-    fn metadata(&self, _path: &str) -> io::Result<Metadata> {
-        Err(ErrorKind::Unsupported.into())
+    fn metadata(&self, path: &str) -> io::Result<Metadata> {
+        match self.opening {
+            Opening::Refused(kind) => Err(kind.into()),
+            Opening::NoFile => Ok(Metadata::of_symlink(0)),
+            _ => fs::metadata(self.rt, path),
+        }
     }
 
     fn symlink_metadata(&self, _path: &str) -> io::Result<Metadata> {
@@ -129,12 +147,15 @@ impl Files for FakeFiles<'_> {
         Err(ErrorKind::Unsupported.into())
     }
 
-    fn rename(&self, _from: &str, _to: &str) -> io::Result<()> {
-        Err(ErrorKind::Unsupported.into())
+    fn rename(&self, from: &str, to: &str) -> io::Result<()> {
+        if self.opening == Opening::Stuck {
+            return Err(ErrorKind::StorageFull.into());
+        }
+        fs::rename(self.rt, from, to)
     }
 
-    fn remove_file(&self, _path: &str) -> io::Result<()> {
-        Err(ErrorKind::Unsupported.into())
+    fn remove_file(&self, path: &str) -> io::Result<()> {
+        fs::remove_file(self.rt, path)
     }
 
     fn create_dir(&self, _path: &str) -> io::Result<()> {
@@ -191,6 +212,14 @@ fn a_file_is_fetched_and_placed_whole(rt: HostRuntime) -> Result<(), Fail> {
         assert_eq!(rt; shelf.fetch(alloc, b"folder.file")?.as_slice(), text);
         assert_eq!(rt; slow.fetch(alloc, b"folder.file")?.as_slice(), text);
     }
+    let mut stuck = shelf_of(&rt, Opening::Stuck);
+    let placed = stuck.place(alloc, b"folder.file", b"third");
+    assert_eq!(rt; placed, Err(PlaceError::Failed));
+    assert_eq!(rt;
+        shelf.fetch(alloc, b"folder.file")?.as_slice(),
+        b"second".as_slice()
+    );
+    assert_eq!(rt; fs::exists(&rt, ".folder.file.part")?, false);
     fs::remove_file(&rt, "folder.file")?;
     // A file as long as a file may be, and one that is a byte longer, where the limit is a small one. The shelf's is `FILE_MAX`.
     for (left, len) in [(5, Some(5)), (6, None)] {
@@ -203,4 +232,40 @@ fn a_file_is_fetched_and_placed_whole(rt: HostRuntime) -> Result<(), Fail> {
         assert_eq!(rt; bytes.ok().map(|bytes| bytes.len()), len, "at {left}");
     }
     Ok(())
+}
+
+#[test]
+fn what_is_no_file_is_a_fault_and_not_opened(rt: HostRuntime) -> Result<(), Fail> {
+    let alloc = rt.alloc();
+    rt.symlink("/dev/null", "folder.null")?;
+    let mut shelf = FolderShelf::new(&rt);
+    let bytes = shelf.fetch(alloc, b"folder.null");
+    let placed = shelf.place(alloc, b"folder.null", b"text");
+    fs::remove_file(&rt, "folder.null")?;
+    assert_eq!(rt; bytes.err(), Some(FetchError::Failed));
+    assert_eq!(rt; placed, Err(PlaceError::Failed));
+    let mut shelf = shelf_of(&rt, Opening::NoFile);
+    let bytes = shelf.fetch(alloc, b"folder.none");
+    let placed = shelf.place(alloc, b"folder.none", b"text");
+    assert_eq!(rt; bytes.err(), Some(FetchError::Failed));
+    assert_eq!(rt; placed, Err(PlaceError::Failed));
+    assert_eq!(rt; fs::exists(&rt, "folder.none")?, false);
+    Ok(())
+}
+
+#[test]
+fn an_interrupted_call_is_no_fault(rt: HostRuntime) {
+    let slow = || FakeFile {
+        file: None,
+        left: 3,
+        interrupts: false,
+    };
+    let mut source = StdSource::new(slow());
+    let mut into = [0u8; 2];
+    for count in [2, 1, 0] {
+        assert_eq!(rt; source.read(&mut into), Ok(count));
+    }
+    let mut sink = StdSink::new(slow());
+    assert_eq!(rt; sink.write(b"abc"), Ok(2));
+    assert_eq!(rt; sink.write(b"c"), Ok(1));
 }
