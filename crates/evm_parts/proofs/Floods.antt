@@ -102,7 +102,7 @@ grow p q f (x ∷ xs) = at (p x) (q x) refl refl (grow p q f xs)
         h
 
 -- a place that passes counts
-one_counts : (p : List ℤ → Bool) (d : List ℤ) → p d ≡ true → (xs : List (List ℤ)) → has xs d ≡ true → 1 ≤ count_by p xs
+pub one_counts : (p : List ℤ → Bool) (d : List ℤ) → p d ≡ true → (xs : List (List ℤ)) → has xs d ≡ true → 1 ≤ count_by p xs
 unfolding has
 one_counts p d h [] m = absurd (false≢true m)
 one_counts p d h (x ∷ xs) m =
@@ -185,11 +185,11 @@ ascending-rounds (suc k) S T a b = ascending-rounds k S (spread S T) a (ascendin
 
 -- ---- floods
 
-one_is : (c d : List ℤ) → has (c ∷ []) d ≡ true → d ≡ c
+pub one_is : (c d : List ℤ) → has (c ∷ []) d ≡ true → d ≡ c
 unfolding has
 one_is c d m = ⊎_elim (λ e. strict_places.equal d c e) (λ f. absurd (false≢true f)) (or_cases (same d c) false m)
 
-one_has : (c : List ℤ) → has (c ∷ []) c ≡ true
+pub one_has : (c : List ℤ) → has (c ∷ []) c ≡ true
 unfolding has
 one_has c = or_left (same c c) false (strict_places.itself c)
 

@@ -3,3 +3,4 @@ pub mod Floods
 pub mod Meeting
 pub mod FloodBoxes
 pub mod FloodParts
+pub mod FloodChains

@@ -3,3 +3,4 @@ pub mod Labels
 pub mod Laws
 pub mod Links
 pub mod PartLists
+pub mod Chains
