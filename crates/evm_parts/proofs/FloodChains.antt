@@ -1,5 +1,5 @@
 -- The parts of a cell set are what hangs together by faces.
-use Rattle.std.proofs.Common.{◌≡◌, ℕ, zero, suc, ◌+◌, ◌<◌, ◌≤◌, ◌⊎◌, inl, inr, ⊎_elim, Bool, true, false, ◌&&◌, ◌||◌, List, [], ◌∷◌, map, filter, length, get_or, count_by, ℤ, refl, sym, ap, ap₂, ◌∙◌, subst, arith, All}
+use Rattle.std.proofs.Common.{◌≡◌, ℕ, zero, suc, ◌+◌, ◌<◌, ◌≤◌, ⊎_elim, Bool, true, false, ◌&&◌, List, [], ◌∷◌, map, filter, length, get_or, count_by, ℤ, refl, sym, ap, ap₂, ◌∙◌, arith}
 use Rattle.std.specs.List.{list_any, list_all, Contains}
 use Rattle.std.proofs.lemmas.Bool.{false≢true, or_left, or_right, or_cases, cases_Bool}
 use Rattle.std.proofs.lemmas.List.Elements.{All-map}
@@ -73,9 +73,9 @@ count_once p (x ∷ xs) a h =
     (λ (e : p x ≡ true).
     let v = ap bit e in
     let w = count_none p xs (λ y m q.
-        let l = member_passes (before x) xs y up m in
-        let l2 = ap (before x) (h x y here (later y m) e q) ∙ l in
-        strict_places.one_way x x l2 l2) in
+    let l = member_passes (before x) xs y up m in
+    let l2 = ap (before x) (h x y here (later y m) e q) ∙ l in
+    strict_places.one_way x x l2 l2) in
     omega (arith, u, v, w))
     (λ (e : p x ≡ false).
     let v = ap bit e in

@@ -1,5 +1,5 @@
 -- The laws of parts.
-use Rattle.std.specs.Prelude.{◌≡◌, ◌↔◌, ◌+◌, ℕ, true, ℤ, List, [], ◌∷◌, map, count_by, if◌then◌else◌, All}
+use Rattle.std.specs.Prelude.{◌≡◌, ◌↔◌, ℕ, true, ℤ, List, [], ◌∷◌, map, count_by, if◌then◌else◌, All}
 use Rattle.std.specs.List.{Contains}
 use Rattle.evm_cells.specs.Places.{has, ascending}
 use Rattle.evm_cells.specs.Limits.{IsCellSet}

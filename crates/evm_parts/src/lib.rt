@@ -7,5 +7,5 @@ mod lists;
 mod neighbours;
 
 pub use components::parts;
-pub use laws::parts_by_labels;
+pub use laws::{parts_by_labels, parts_hang_together};
 pub use lists::Parts;
