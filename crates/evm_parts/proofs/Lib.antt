@@ -4,3 +4,6 @@ pub mod Meeting
 pub mod FloodBoxes
 pub mod FloodParts
 pub mod FloodChains
+pub mod Parents
+pub mod Chains
+pub mod Ranges

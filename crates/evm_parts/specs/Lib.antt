@@ -4,3 +4,4 @@ pub mod Laws
 pub mod Links
 pub mod PartLists
 pub mod Chains
+pub mod Parents

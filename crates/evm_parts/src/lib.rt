@@ -2,6 +2,7 @@
 #![tactic(auto)]
 
 mod components;
+mod labels;
 mod laws;
 mod lists;
 mod neighbours;

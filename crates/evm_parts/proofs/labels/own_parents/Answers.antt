@@ -1,0 +1,7 @@
+use Rattle.std.proofs.Common.{◌++◌, [], ◌∷◌, ap, sym, ◌∙◌}
+use Rattle.evm_parts.proofs.Ranges.{range_more}
+use Rattle.evm_parts.proofs.labels.own_parents.Goals as goal
+
+pub loop-index-preserved : goal.loop-index-preserved
+loop-index-preserved c =
+    c.in_ok-push.ensures.items ∙ ap (λ xs. xs ++ c.loop-index.index ∷ []) c.loop-index.invariant ∙ sym (range_more c.loop-index.index)
