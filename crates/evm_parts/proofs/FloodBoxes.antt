@@ -1,5 +1,5 @@
 -- Boxes of a list by their places in it: those of the stated partition of a cell set, those with one label, and the roots.
-use Rattle.std.proofs.Common.{◌≡◌, ℕ, zero, suc, ◌+◌, ◌<◌, ◌≤◌, ⊎_elim, Bool, true, false, ◌==◌, List, [], ◌∷◌, map, filter, length, count_by, ℤ, refl, sym, ap, ap₂, ◌∙◌, arith, eqb-true, eq-eqb}
+use Rattle.std.proofs.Common.{◌≡◌, ℕ, zero, suc, ◌+◌, ◌<◌, ◌≤◌, ⊎_elim, Bool, true, false, ◌==◌, List, [], ◌∷◌, map, filter, length, get_or, count_by, ℤ, refl, sym, ap, ap₂, ◌∙◌, arith, eqb-true, eq-eqb}
 use Rattle.std.specs.List.{list_any, list_all, range_with_len}
 use Rattle.std.proofs.lemmas.Bool.{false≢true, or_left, or_right, or_cases, cases_Bool, cases_order}
 use Rattle.evm_cells.specs.Places.{has, same, before, ascending}
@@ -14,29 +14,32 @@ use Rattle.evm_partition.proofs.Within.{boxes_have_room}
 use Rattle.evm_parts.specs.Labels.{box_at, no_box, label_at, labelled}
 use Rattle.evm_parts.proofs.Meeting.{IsInside, HasRoom, inside_is, inside_yes, room_is}
 
--- ---- a test that counts boxes
+-- ---- elements that a test counts
 
-count_one : (f : Ends → Bool) (bs : List Ends) (i : ℕ) → i < length bs → f (box_at bs i) ≡ true → 1 ≤ count_by f bs
-count_one f [] i l h = absurd (omega arith)
-count_one f (b ∷ bs) zero l h = let u = count-cons f b bs in let v = ap bit h in omega (arith, u, v)
-count_one f (b ∷ bs) (suc i) l h = let u = count-cons f b bs in let v = count_one f bs i (omega arith) h in omega (arith, u, v)
+module _ {X : Type 0} (f : X → Bool) (x : X) where
+  count_one : (xs : List X) (i : ℕ) → i < length xs → f (get_or xs i x) ≡ true → 1 ≤ count_by f xs
+  count_one [] i l h = absurd (omega arith)
+  count_one (y ∷ xs) zero l h = let u = count-cons f y xs in let v = ap bit h in omega (arith, u, v)
+  count_one (y ∷ xs) (suc i) l h = let u = count-cons f y xs in let v = count_one xs i (omega arith) h in omega (arith, u, v)
 
-count_two : (f : Ends → Bool) (bs : List Ends) (i j : ℕ) → i < j → j < length bs → f (box_at bs i) ≡ true → f (box_at bs j) ≡ true → 2 ≤ count_by f bs
-count_two f [] i j k l h g = absurd (omega arith)
-count_two f (b ∷ bs) i zero k l h g = absurd (omega arith)
-count_two f (b ∷ bs) zero (suc j) k l h g = let u = count-cons f b bs in let v = ap bit h in let w = count_one f bs j (omega arith) g in omega (arith, u, v, w)
-count_two f (b ∷ bs) (suc i) (suc j) k l h g = let u = count-cons f b bs in let v = count_two f bs i j (omega arith) (omega arith) h g in omega (arith, u, v)
+  pub count_two : (xs : List X) (i j : ℕ) → i < j → j < length xs → f (get_or xs i x) ≡ true → f (get_or xs j x) ≡ true → 2 ≤ count_by f xs
+  count_two [] i j k l h g = absurd (omega arith)
+  count_two (y ∷ xs) i zero k l h g = absurd (omega arith)
+  count_two (y ∷ xs) zero (suc j) k l h g = let u = count-cons f y xs in let v = ap bit h in let w = count_one xs j (omega arith) g in omega (arith, u, v, w)
+  count_two (y ∷ xs) (suc i) (suc j) k l h g = let u = count-cons f y xs in let v = count_two xs i j (omega arith) (omega arith) h g in omega (arith, u, v)
 
-count_some : (f : Ends → Bool) (bs : List Ends) → 1 ≤ count_by f bs → (i : ℕ) × (i < length bs) × (f (box_at bs i) ≡ true)
-count_some f [] h = absurd (omega arith)
-count_some f (b ∷ bs) h = ⊎_elim
-    (λ (e : f b ≡ true). (0, omega arith, e))
-    (λ (e : f b ≡ false).
-    let u = count-cons f b bs in
-    let v = ap bit e in
-    let (i, l, k) = count_some f bs (omega (arith, u, v)) in
-    (suc i, omega arith, k))
-    (cases_Bool (f b))
+  count_some : (xs : List X) → 1 ≤ count_by f xs → (i : ℕ) × (i < length xs) × (f (get_or xs i x) ≡ true)
+  count_some [] h = absurd (omega arith)
+  count_some (y ∷ xs) h = ⊎_elim
+      (λ (e : f y ≡ true). (0, omega arith, e))
+      (λ (e : f y ≡ false).
+      let u = count-cons f y xs in
+      let v = ap bit e in
+      let (i, l, k) = count_some xs (omega (arith, u, v)) in
+      (suc i, omega arith, k))
+      (cases_Bool (f y))
+
+-- ---- places of boxes
 
 all_at : (p : List ℤ → Bool) (bs : List Ends) (i : ℕ) → list_all p (map (λ b. b.lo) bs) ≡ true → i < length bs → p (box_at bs i).lo ≡ true
 all_at p [] i h l = absurd (omega arith)
@@ -66,7 +69,7 @@ module _ (n : ℕ) (S : List (List ℤ)) (s : IsCellSet n S) where
   box_of_cell c m =
       let u = once_inside n S c s in
       let v = ap bit m in
-      let (i, l, h) = count_some (inside c) (partition n S) (omega (arith, u, v)) in
+      let (i, l, h) = count_some (inside c) no_box (partition n S) (omega (arith, u, v)) in
       let b = box_at (partition n S) i in
       (i, record { there = l; inside = inside_is b.lo b.hi c h })
 
@@ -74,7 +77,7 @@ module _ (n : ℕ) (S : List (List ℤ)) (s : IsCellSet n S) where
   cell_of_box i c h =
       let b = box_at (partition n S) i in
       let u = once_inside n S c s in
-      let v = count_one (inside c) (partition n S) i h.there (inside_yes b.lo b.hi c h.inside) in
+      let v = count_one (inside c) no_box (partition n S) i h.there (inside_yes b.lo b.hi c h.inside) in
       by_bit (has S c) (omega (arith, u, v))
 
   never_two : (i j : ℕ) (c : List ℤ) → i < j → IsIn (partition n S) i c → IsIn (partition n S) j c → ⊥
@@ -82,7 +85,7 @@ module _ (n : ℕ) (S : List (List ℤ)) (s : IsCellSet n S) where
       let b = box_at (partition n S) i in
       let d = box_at (partition n S) j in
       let u = once_inside n S c s in
-      let v = count_two (inside c) (partition n S) i j l g.there (inside_yes b.lo b.hi c h.inside) (inside_yes d.lo d.hi c g.inside) in
+      let v = count_two (inside c) no_box (partition n S) i j l g.there (inside_yes b.lo b.hi c h.inside) (inside_yes d.lo d.hi c g.inside) in
       let w = ap bit (cell_of_box i c h) in
       omega (arith, u, v, w)
 

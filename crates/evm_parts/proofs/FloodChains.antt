@@ -1,5 +1,5 @@
 -- The parts of a cell set are what hangs together by faces.
-use Rattle.std.proofs.Common.{◌≡◌, ℕ, zero, suc, ◌+◌, ◌<◌, ◌≤◌, ⊎_elim, Bool, true, false, ◌&&◌, List, [], ◌∷◌, map, filter, length, get_or, count_by, ℤ, refl, sym, ap, ap₂, ◌∙◌, arith}
+use Rattle.std.proofs.Common.{◌≡◌, ◌≢◌, All, ℕ, zero, suc, ◌+◌, ◌<◌, ◌≤◌, ⊎_elim, Bool, true, false, ◌&&◌, List, [], ◌∷◌, map, filter, length, get_or, count_by, ℤ, refl, sym, ap, ap₂, ◌∙◌, arith}
 use Rattle.std.specs.List.{list_any, list_all, Contains}
 use Rattle.std.proofs.lemmas.Bool.{false≢true, or_left, or_right, or_cases, cases_Bool}
 use Rattle.std.proofs.lemmas.List.Elements.{All-map}
@@ -15,7 +15,7 @@ use Rattle.evm_cells.proofs.Universe.{has-filter, ascending-filter, member_passe
 use Rattle.evm_cells.proofs.Unions.{cell_set-or_all, has-or_all}
 use Rattle.evm_partition.proofs.Once.{bit, count-cons}
 use Rattle.evm_parts.specs.Chains.{AreJoined, least}
-use Rattle.evm_parts.specs.Laws.{PartsByChains, CellsStandInOnePart, UnionOfParts, PartsStandApart, PartsAreCellSets, PartsAscend, PartIsWhole, CornerJoinsNothing, EdgeJoinsNothing, AngleIsOnePart}
+use Rattle.evm_parts.specs.Laws.{FloodsAreParts, UnionOfParts, PartsStandApart, PartIsWhole, CornerJoinsNothing, EdgeJoinsNothing, AngleIsOnePart}
 use Rattle.evm_parts.proofs.Floods.{IsClosed, share_face_sym, any_place, place_any, one_counts, one_is, one_has, flood_within, flood_has, flood_closed, flood_passes, ascending-flood}
 
 -- ---- lists that are made of places
@@ -95,7 +95,7 @@ unfolding begins_with
 one_first [] c d h k = absurd (false≢true h)
 one_first (x ∷ T) c d h k = strict_places.equal c x h ∙ sym (strict_places.equal d x k)
 
-first_is_least : (T : List (List ℤ)) (c : List ℤ) → begins_with c T ≡ true → least T ≡ c
+pub first_is_least : (T : List (List ℤ)) (c : List ℤ) → begins_with c T ≡ true → least T ≡ c
 unfolding begins_with
 first_is_least [] c h = absurd (false≢true h)
 first_is_least (x ∷ T) c h = sym (strict_places.equal c x h)
@@ -103,7 +103,7 @@ first_is_least (x ∷ T) c h = sym (strict_places.equal c x h)
 -- ---- chains
 
 module _ (S : List (List ℤ)) where
-  joined_start : (c d : List ℤ) → AreJoined S c d → has S c ≡ true
+  pub joined_start : (c d : List ℤ) → AreJoined S c d → has S c ≡ true
   joined_start _ _ (AreJoined.here c m) = m
   joined_start _ _ (AreJoined.onward c d e m h r) = m
 
@@ -111,11 +111,11 @@ module _ (S : List (List ℤ)) where
   joined_on _ _ e (AreJoined.here c m) h k = AreJoined.onward c e e m h (AreJoined.here e k)
   joined_on _ _ e (AreJoined.onward c x d m g r) h k = AreJoined.onward c x e m g (joined_on x d e r h k)
 
-  joined_back : (c d : List ℤ) → AreJoined S c d → AreJoined S d c
+  pub joined_back : (c d : List ℤ) → AreJoined S c d → AreJoined S d c
   joined_back _ _ (AreJoined.here c m) = AreJoined.here c m
   joined_back _ _ (AreJoined.onward c x d m g r) = joined_on d x c (joined_back x d r) (share_face_sym x c ∙ g) m
 
-  joined_both : (c d e : List ℤ) → AreJoined S c d → AreJoined S d e → AreJoined S c e
+  pub joined_both : (c d e : List ℤ) → AreJoined S c d → AreJoined S d e → AreJoined S c e
   joined_both _ _ e (AreJoined.here c m) s = s
   joined_both _ _ e (AreJoined.onward c x d m g r) s = AreJoined.onward c x e m g (joined_both x d e r s)
 
@@ -129,14 +129,14 @@ module _ (S : List (List ℤ)) where
   joined_within T closed _ _ (AreJoined.onward c x d m g r) t = AreJoined.onward c x d t g (joined_within T closed x d r (closed x c (joined_start x d r) t (share_face_sym x c ∙ g)))
 
   -- a flood has what hangs together with its cell
-  flood_joined : (c d : List ℤ) → has S c ≡ true → has (flood S c) d ≡ true → AreJoined S c d
+  pub flood_joined : (c d : List ℤ) → has S c ≡ true → has (flood S c) d ≡ true → AreJoined S c d
   flood_joined c d m = flood_passes S c m (AreJoined S c) (λ e f k r h. joined_on c f e r (share_face_sym f e ∙ h) k) (AreJoined.here c m) d
 
-  joined_flood : (c d : List ℤ) → AreJoined S c d → has (flood S c) d ≡ true
+  pub joined_flood : (c d : List ℤ) → AreJoined S c d → has (flood S c) d ≡ true
   joined_flood c d r = let m = joined_start c d r in closed_joined (flood S c) (flood_closed S c m) c d r (flood_has S c m)
 
   module _ (up : ascending S ≡ true) where
-    flood-same : (c d : List ℤ) → AreJoined S c d → flood S c ≡ flood S d
+    pub flood-same : (c d : List ℤ) → AreJoined S c d → flood S c ≡ flood S d
     flood-same c d r =
         let m = joined_start c d r in
         let b = joined_back c d r in
@@ -148,13 +148,13 @@ module _ (S : List (List ℤ)) where
 
     -- ---- heads of parts
 
-    abbrev begins : List ℤ → Bool
+    abbrev pub begins : List ℤ → Bool
     begins c = begins_with c (flood S c)
 
-    abbrev heads : List (List ℤ)
+    abbrev pub heads : List (List ℤ)
     heads = filter begins S
 
-    head_parts : (h : List ℤ) → has heads h ≡ true → (has S h ≡ true) × (begins h ≡ true)
+    pub head_parts : (h : List ℤ) → has heads h ≡ true → (has S h ≡ true) × (begins h ≡ true)
     head_parts h m = let u = sym (has-filter begins S h) ∙ m in (and_first (has S h) (begins h) u, and_second (has S h) (begins h) u)
 
     head_of : (c : List ℤ) → has S c ≡ true → (h : List ℤ) × (has heads h ≡ true) × (AreJoined S h c)
@@ -261,13 +261,6 @@ module _ (S : List (List ℤ)) (up : ascending S ≡ true) (h : List ℤ) (m : h
 
 -- ---- the laws
 
-pub parts_by_chains : PartsByChains
-parts_by_chains n S c d s = (λ p. joined_in S s.ascends c d p.0 p.1 p.2 p.3, in_one S s.ascends c d)
-
-pub cells_stand_in_one_part : CellsStandInOnePart
-unfolding parts
-cells_stand_in_one_part n S c s = count-map (λ A. has A c) (flood S) (heads S s.ascends) ∙ counted S s.ascends c
-
 pub union_of_parts : UnionOfParts
 union_of_parts n S s =
     same_sets (or_all n (parts S)) S (cell_set-or_all n (parts S)).ascends s.ascends
@@ -276,19 +269,27 @@ union_of_parts n S s =
 pub parts_stand_apart : PartsStandApart
 parts_stand_apart n S A B c d s = apart S s.ascends A B c d
 
-pub parts_are_cell_sets : PartsAreCellSets
-unfolding parts has
-parts_are_cell_sets n S s = All-map (IsCellSet n) (flood S) (heads S s.ascends)
-    (λ k d l.
-    let h = get_or (heads S s.ascends) k d in
-    let m = (head_parts S s.ascends h (place_at (heads S s.ascends) k d l)).0 in
-    record {
-      ascends = ascending-flood S h m s.ascends;
-      cells = all_members same before strict_places (is_cell n) (flood S h) (λ c t. member_passes (is_cell n) S c s.cells (flood_within S h m c t));
-    })
+head_at : (n : ℕ) (S : List (List ℤ)) (s : IsCellSet n S) (P : List (List ℤ) → Type 0) → ((h : List ℤ) → has S h ≡ true → P (flood S h)) → All P (parts S)
+unfolding parts
+head_at n S s P f = All-map P (flood S) (heads S s.ascends)
+    (λ k d l. let h = get_or (heads S s.ascends) k d in f h (head_parts S s.ascends h (place_at (heads S s.ascends) k d l)).0)
 
-pub parts_ascend : PartsAscend
-parts_ascend n S s = ascend S s.ascends
+not_empty : (T : List (List ℤ)) (c : List ℤ) → has T c ≡ true → T ≢ []
+unfolding has
+not_empty T c m e = false≢true (sym (ap (λ U. has U c) e) ∙ m)
+
+pub floods_are_parts : FloodsAreParts
+unfolding parts has
+floods_are_parts n S s = record {
+  cell_sets = head_at n S s (IsCellSet n) (λ h m. record {
+    ascends = ascending-flood S h m s.ascends;
+    cells = all_members same before strict_places (is_cell n) (flood S h) (λ c t. member_passes (is_cell n) S c s.cells (flood_within S h m c t));
+  });
+  filled = head_at n S s (λ A. A ≢ []) (λ h m. not_empty (flood S h) h (flood_has S h m));
+  ascends = ascend S s.ascends;
+  once = λ c. count-map (λ A. has A c) (flood S) (heads S s.ascends) ∙ counted S s.ascends c;
+  joined = λ c d. (λ p. joined_in S s.ascends c d p.0 p.1 p.2 p.3, in_one S s.ascends c d);
+}
 
 pub part_is_whole : PartIsWhole
 part_is_whole n S A s p =

@@ -7,3 +7,4 @@ pub mod FloodChains
 pub mod Parents
 pub mod Chains
 pub mod Ranges
+pub mod FloodsOnly
