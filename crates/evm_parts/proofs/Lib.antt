@@ -8,3 +8,6 @@ pub mod Parents
 pub mod Chains
 pub mod Ranges
 pub mod FloodsOnly
+pub mod Sweep
+pub mod Appended
+pub mod Walks

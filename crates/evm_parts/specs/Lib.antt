@@ -5,3 +5,4 @@ pub mod Links
 pub mod PartLists
 pub mod Chains
 pub mod Parents
+pub mod Stretches

@@ -10,3 +10,6 @@ mod neighbours;
 pub use components::parts;
 pub use laws::{parts_by_labels, parts_hang_together};
 pub use lists::Parts;
+
+#[cfg(test)]
+mod link_tests;
