@@ -11,3 +11,4 @@ pub mod FloodsOnly
 pub mod Sweep
 pub mod Appended
 pub mod Walks
+pub mod NestedSlabs
