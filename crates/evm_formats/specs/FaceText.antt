@@ -53,7 +53,8 @@ side_word Rising = codes "r"
 -- the line of a box: the axis, counted from 1, the height, the letter of the side, and the numbers of the lower corner and then of
 -- the upper one on the other axes
 abbrev pub face_line : Face → List ℕ
-face_line f = spaced (signed_decimal (pos (suc f.axis)) ∷ signed_decimal f.at ∷ side_word f.side ∷ map signed_decimal (f.ends.lo ++ f.ends.hi))
+face_line f =
+    spaced (signed_decimal (pos (suc f.axis)) ∷ signed_decimal f.at ∷ side_word f.side ∷ map signed_decimal (f.ends.lo ++ f.ends.hi))
 
 -- the faces file of a cell set: line 1, and a line for each box of a face, in order; each line is ended by a line feed
 unfoldable pub face_file : ℕ → List (List ℤ) → List ℕ
