@@ -1,5 +1,5 @@
 -- The boxes of the stated partition stand in nested slabs.
-use Rattle.std.proofs.Common.{◌≡◌, ℕ, zero, suc, ◌+◌, ◌<◌, ◌≤◌, ◌⊎◌, inl, inr, List, [], ◌∷◌, ◌++◌, map, length, ℤ, ◌≤ℤ◌, refl, arith, All}
+use Rattle.std.proofs.Common.{◌≡◌, ℕ, zero, suc, ◌+◌, ◌<◌, ◌≤◌, ◌⊎◌, inl, inr, List, [], ◌∷◌, ◌++◌, map, length, ℤ, ◌≤ℤ◌, refl, sym, subst, arith, All}
 use Rattle.std.proofs.lemmas.Int.{ints as int_facts}
 use Rattle.std.proofs.lemmas.List.Elements.{All-nil, All-append, All-map, All-weaker, All-head, All-tail}
 use Rattle.evm_cells.specs.Limits.{IsCellSet}
@@ -7,6 +7,9 @@ use Rattle.evm_cells.specs.Boxes.{IsBox}
 use Rattle.evm_cells.specs.Sections.{slice, cuts}
 use Rattle.evm_cells.specs.Unions.{Ends}
 use Rattle.evm_cells.proofs.Slices.{cell_set-slice}
+use Rattle.evm_cells.proofs.Universe.{cell_set-cells}
+use Rattle.evm_rows.specs.Rows.{Vertices, cells_of}
+use Rattle.evm_partition.specs.BoxLists.{BoxList, partition_of}
 use Rattle.evm_partition.specs.Partition.{raised, boxes_from, boxes_over, partition}
 use Rattle.evm_partition.proofs.Once.{by_zero}
 use Rattle.evm_partition.proofs.Steps.{Steps, AllSteps, steps}
@@ -91,3 +94,9 @@ by_places (b ∷ bs) (suc i) (suc j) p l m = by_places bs i j p.1 (omega arith) 
 
 pub nested_partition : (n : ℕ) (S : List (List ℤ)) → IsCellSet n S → AreNested n (partition n S)
 nested_partition n S s = record { room = boxes_have_room n S s; ascends = λ i j l m. by_places (partition n S) i j (in_order n S s) l m }
+
+-- those that a list of boxes has, as they are split
+pub nested_boxes : (b : BoxList) (v : Vertices) → b.dim ≡ v.dim → b.boxes ≡ partition_of v → AreNested b.dim b.boxes
+nested_boxes b v e f =
+    subst (λ n. AreNested n b.boxes) (sym e)
+    (subst (AreNested v.dim) (sym f) (nested_partition v.dim (cells_of v) (cell_set-cells v.dim v.rows)))
