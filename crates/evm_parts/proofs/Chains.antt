@@ -1,6 +1,6 @@
 -- Chains of neighbours, and parents that keep to them.
-use Rattle.std.proofs.Common.{◌≡◌, ◌≢◌, ℕ, zero, suc, ◌+◌, ◌<◌, ◌≤◌, ◌⊎◌, ⊎_elim, Bool, true, false, ◌&&◌, ◌||◌, List, [], ◌∷◌, ◌++◌, ℤ, int_lt, length, take, get_or, set, refl, sym, ap, ap₂, ◌∙◌, subst, arith}
-use Rattle.std.specs.List.{range_with_len, Contains, All}
+use Rattle.std.proofs.Common.{◌≡◌, ◌≢◌, ℕ, ◌+◌, ◌<◌, ◌≤◌, ◌⊎◌, ⊎_elim, Bool, true, false, ◌&&◌, ◌||◌, List, [], ◌∷◌, ℤ, int_lt, length, get_or, set, refl, sym, ap, ap₂, ◌∙◌, subst, arith}
+use Rattle.std.specs.List.{range_with_len}
 use Rattle.std.proofs.lemmas.Bool.{cases_lt}
 use Rattle.std.proofs.lemmas.List.{get_or-set_same, get_or-set_other}
 use Rattle.std.proofs.lemmas.List.Elements.{All-contains}
@@ -9,7 +9,7 @@ use Rattle.std.proofs.Math.ListN.{length-set}
 use Rattle.std.specs.Ordering.{int_eq}
 use Rattle.evm_cells.specs.Unions.{Ends}
 use Rattle.evm_cells.proofs.Xor.{and_comm}
-use Rattle.evm_parts.specs.Neighbours.{overlapping, touching, overlap, meet}
+use Rattle.evm_parts.specs.Neighbours.{overlapping, touching}
 use Rattle.evm_parts.specs.Labels.{box_at, label_at, AreLinked, IsChained, here, onward, AreLabels}
 use Rattle.evm_parts.specs.Links.{IsLink, AreLinks}
 use Rattle.evm_parts.specs.Parents as parents

@@ -12,3 +12,6 @@ pub mod Sweep
 pub mod Appended
 pub mod Walks
 pub mod NestedSlabs
+pub mod Gathered
+pub mod Apart
+pub mod PartLists

@@ -1,18 +1,17 @@
 -- What a sweep over nested slabs of boxes rests on.
-use Rattle.std.proofs.Common.{◌≡◌, ℕ, zero, suc, ◌+◌, ◌<◌, ◌≤◌, Bool, true, false, ◌&&◌, ◌||◌, ◌⊎◌, inl, inr, List, [], ◌∷◌, length, drop, get_or, ℤ, pos, ◌≤ℤ◌, ◌<ℤ◌, int_lt, refl, sym, ap, ◌∙◌, subst, arith, ⊎_elim}
+use Rattle.std.proofs.Common.{◌≡◌, ℕ, zero, suc, ◌+◌, ◌<◌, ◌≤◌, true, false, ◌&&◌, ◌||◌, ◌⊎◌, List, [], ◌∷◌, length, drop, get_or, ℤ, pos, ◌≤ℤ◌, ◌<ℤ◌, int_lt, refl, sym, ap, arith, ⊎_elim}
 use Rattle.std.proofs.lemmas.Int.{ints as int_facts}
 use Rattle.std.proofs.lemmas.Bool.{cases_lt}
 use Rattle.std.proofs.lemmas.List.{drop_more, drop_all}
 use Rattle.evm_cells.specs.Places.{each}
-use Rattle.evm_cells.specs.Boxes.{IsBox}
 use Rattle.evm_cells.specs.Unions.{Ends}
 use Rattle.evm_cells.proofs.Xor.{and_first, and_second}
 use Rattle.evm_cells.proofs.Coords.{lt_is}
 use Rattle.evm_cells.proofs.Universe.{point_parts}
 use Rattle.evm_parts.specs.Neighbours.{overlap, meet, overlapping, touching}
 use Rattle.evm_parts.specs.Labels.{no_box, box_at}
-use Rattle.evm_parts.specs.Links.{Precedes, AreNested}
-use Rattle.evm_parts.specs.Stretches.{low_at, high_at, overlap_from, touch_from, PrecedesFrom, IsIn, IsNestedFrom, IsFirstAbove, IsFirstSlab}
+use Rattle.evm_parts.specs.Links.{AreNested}
+use Rattle.evm_parts.specs.Stretches.{low_at, high_at, overlap_from, touch_from, PrecedesFrom, IsNestedFrom, IsFirstAbove, IsFirstSlab}
 use Rattle.evm_parts.specs.declared.neighbours.Stretch.{Stretch}
 
 -- ---- one axis of four lists

@@ -1,20 +1,18 @@
 -- What the walks over the slabs of stretches have found.
-use Rattle.std.proofs.Common.{◌≡◌, ℕ, zero, suc, ◌+◌, ◌<◌, ◌≤◌, Bool, true, false, ◌&&◌, ◌||◌, ◌⊎◌, inl, inr, List, [], ◌∷◌, ◌++◌, length, ℤ, ◌≤ℤ◌, ◌<ℤ◌, int_lt, refl, sym, ap, ◌∙◌, subst, arith, ⊎_elim, All}
+use Rattle.std.proofs.Common.{◌≡◌, ℕ, ◌+◌, ◌<◌, ◌≤◌, Bool, true, false, ◌&&◌, ◌||◌, ◌⊎◌, inl, inr, List, [], ◌∷◌, ◌++◌, length, ◌≤ℤ◌, ◌<ℤ◌, int_lt, refl, sym, ap, ◌∙◌, subst, arith, ⊎_elim, All}
 use Rattle.std.specs.Ordering.{int_eq}
 use Rattle.std.specs.List.{Contains}
-use Rattle.std.proofs.lemmas.Bool.{cases_lt, cases_Bool, false≢true}
+use Rattle.std.proofs.lemmas.Bool.{cases_lt, false≢true}
 use Rattle.std.proofs.lemmas.List.Elements.{All-weaker}
 use Rattle.std.proofs.lemmas.Int.{ints as int_facts}
 use Rattle.evm_cells.specs.Unions.{Ends}
 use Rattle.evm_cells.proofs.Xor.{and_first, and_second, and_both}
 use Rattle.evm_cells.proofs.Coords.{lt_is, lt_yes, lt_no, eq_is, eq_yes, eq_no}
-use Rattle.evm_parts.specs.Neighbours.{overlap, meet}
-use Rattle.evm_parts.specs.Labels.{AreLinked}
 use Rattle.evm_parts.specs.Links.{AreNested, IsLink, AreLinks}
 use Rattle.evm_parts.specs.Stretches.{low_at, high_at, overlap_from, touch_from, PrecedesFrom, IsIn, IsNestedFrom, IsFirstAbove, IsFirstSlab, IsOverlap, IsTouch, IsMeeting, AreAppended}
 use Rattle.evm_parts.specs.declared.neighbours.Link.{Link}
 use Rattle.evm_parts.specs.declared.neighbours.Stretch.{Stretch}
-use Rattle.evm_parts.proofs.Sweep.{room_at, overlap_more, touch_more, precedes_more, overlap_all, touch_none, precedes_none, rise}
+use Rattle.evm_parts.proofs.Sweep.{room_at, overlap_more, touch_more, overlap_all, touch_none, precedes_none, rise}
 use Rattle.evm_parts.proofs.Appended.{none_appended, one_appended, appended_as, appended_both}
 
 -- of the links between two stretches, those from a box before p, or to a box before q

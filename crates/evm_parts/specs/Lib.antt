@@ -6,3 +6,4 @@ pub mod PartLists
 pub mod Chains
 pub mod Parents
 pub mod Stretches
+pub mod PartRows

@@ -1,5 +1,5 @@
 -- The links between the boxes of a list, and lists that stand in nested slabs. Boxes are counted from 0.
-use Rattle.std.specs.Prelude.{◌≡◌, ℕ, ◌<◌, ◌⊎◌, ℤ, ◌≤ℤ◌, List, [], ◌∷◌, length, All}
+use Rattle.std.specs.Prelude.{◌≡◌, ℕ, ◌<◌, ◌⊎◌, ℤ, ◌≤ℤ◌, List, ◌∷◌, length, All}
 use Rattle.std.specs.List.{Contains}
 use Rattle.evm_cells.specs.Boxes.{IsBox}
 use Rattle.evm_cells.specs.Unions.{Ends}

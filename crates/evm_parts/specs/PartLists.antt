@@ -1,5 +1,5 @@
 -- Lists of the parts of a solid as flat numbers.
-use Rattle.std.specs.Prelude.{◌≡◌, ℕ, ◌-◌, ◌<◌, ◌≤◌, ℤ, List, [], ◌∷◌, map, length, take, drop}
+use Rattle.std.specs.Prelude.{ℕ, ◌-◌, ◌<◌, ◌≤◌, ℤ, List, [], ◌∷◌, map, length, take, drop}
 use Rattle.evm_cells.specs.Parts.{parts}
 use Rattle.evm_cells.specs.Vertices.{evm}
 use Rattle.evm_rows.specs.Rows.{Vertices, AreRows, rows_of, cells_of}

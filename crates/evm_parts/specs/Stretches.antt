@@ -1,5 +1,5 @@
 -- Stretches of a list of boxes that stands in nested slabs, and the links that a sweep over them finds. Axes are counted from 0.
-use Rattle.std.specs.Prelude.{◌≡◌, ℕ, ◌+◌, ◌<◌, ◌≤◌, Bool, true, ℤ, pos, ◌≤ℤ◌, ◌<ℤ◌, List, [], ◌∷◌, ◌++◌, length, drop, slice_index_or, All}
+use Rattle.std.specs.Prelude.{◌≡◌, ℕ, ◌+◌, ◌<◌, ◌≤◌, Bool, true, ℤ, pos, ◌≤ℤ◌, ◌<ℤ◌, List, ◌++◌, length, drop, slice_index_or, All}
 use Rattle.std.specs.List.{Contains}
 use Rattle.evm_cells.specs.Unions.{Ends}
 use Rattle.evm_parts.specs.Neighbours.{overlapping, touching}

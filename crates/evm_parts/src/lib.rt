@@ -6,6 +6,7 @@ mod labels;
 mod laws;
 mod lists;
 mod neighbours;
+mod rows;
 
 pub use components::parts;
 pub use laws::{parts_by_labels, parts_hang_together};

@@ -1,4 +1,4 @@
-use Rattle.std.proofs.Common.{◌≡◌, ◌≤◌, ◌<◌, length, refl, arith}
+use Rattle.std.proofs.Common.{◌<◌, length, refl, arith}
 use Rattle.std.proofs.Math.ListN.{length-set}
 use Rattle.evm_parts.specs.Parents.{parent_at, here}
 use Rattle.evm_parts.proofs.Parents.{higher_start, higher_parents, higher_more, above_then}

@@ -1,9 +1,9 @@
-use Rattle.std.proofs.Common.{◌≡◌, ◌+◌, ◌-◌, ◌<◌, ◌≤◌, ℤ, ◌≤ℤ◌, ◌<ℤ◌, [], ◌∷◌, ◌++◌, ap, ◌∙◌, sym, subst, inl, inr, refl, arith, rules, w32}
+use Rattle.std.proofs.Common.{◌≤ℤ◌, ◌<ℤ◌, ◌∙◌, sym, subst, arith, rules, w32}
 use mir.Val.{SFits}
 use Rattle.std.proofs.lemmas.Int.{to_z-of_z}
 use Rattle.evm_parts.specs.Stretches.{low_at, high_at, IsNestedFrom, IsFirstAbove, IsOverlap, AreAppended}
 use Rattle.evm_parts.proofs.Sweep.{part}
-use Rattle.evm_parts.proofs.Walks.{none_passed, all_passed, skip_left, skip_right, pass_left, pass_right, one_box}
+use Rattle.evm_parts.proofs.Walks.{skip_left, skip_right, pass_left, pass_right, one_box}
 use Rattle.evm_parts.proofs.neighbours.+append_overlapping.Goals as goal
 
 pub returns-then-axis-dim : goal.returns-then-axis-dim

@@ -1,6 +1,5 @@
-use Rattle.std.proofs.Common.{◌≡◌, ◌∙◌, sym, subst, refl, arith, rules}
+use Rattle.std.proofs.Common.{◌∙◌, sym, subst, refl, arith}
 use Rattle.evm_parts.specs.Stretches.{IsNestedFrom, IsTouch, AreAppended}
-use Rattle.evm_parts.proofs.Sweep.{part}
 use Rattle.evm_parts.proofs.Walks.{none_passed_from, all_passed_from, pass_slab, none_touch}
 use Rattle.evm_parts.proofs.neighbours.+append_touching.Goals as goal
 

@@ -1,4 +1,4 @@
-use Rattle.std.proofs.Common.{◌≡◌, ℤ, ◌∙◌, ap, sym, refl, arith, rules, w32, of_z}
+use Rattle.std.proofs.Common.{◌≡◌, ◌∙◌, ap, sym, refl, arith, rules, w32, of_z}
 use Rattle.evm_parts.specs.Stretches.{low_at, high_at}
 use Rattle.evm_parts.specs.declared.neighbours.Stretch.{Stretch}
 use Rattle.evm_parts.proofs.Sweep.{part}

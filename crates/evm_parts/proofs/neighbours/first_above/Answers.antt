@@ -1,4 +1,4 @@
-use Rattle.std.proofs.Common.{◌≡◌, ℕ, ◌+◌, ◌-◌, ◌/◌, ◌<◌, ◌≤◌, ℤ, ◌≤ℤ◌, ◌<ℤ◌, arith, rules, w32, subst}
+use Rattle.std.proofs.Common.{ℕ, ◌+◌, ◌-◌, ◌/◌, ◌≤ℤ◌, ◌<ℤ◌, arith, rules, w32, subst}
 use Rattle.std.proofs.lemmas.Int.{ints as int_facts, to_z-of_z}
 use Rattle.evm_parts.specs.Stretches.{high_at, IsFirstAbove}
 use Rattle.evm_parts.proofs.Sweep.{rise}

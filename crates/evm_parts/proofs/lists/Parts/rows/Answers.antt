@@ -1,4 +1,4 @@
-use Rattle.std.proofs.Common.{◌≡◌, ◌*◌, ◌≤◌, length, get_or, arith, sym}
+use Rattle.std.proofs.Common.{arith, sym}
 use Rattle.evm_parts.proofs.Stretches.{part_of, end_within}
 use Rattle.evm_parts.proofs.lists.Parts.rows.Goals as goal
 

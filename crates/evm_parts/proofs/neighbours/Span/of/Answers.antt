@@ -1,5 +1,4 @@
-use Rattle.std.proofs.Common.{◌≡◌, ℕ, ◌+◌, ◌<◌, ℤ, pos, length, get_or, arith, ap, ◌∙◌, sym, w32, rules}
-use Rattle.std.specs.Prelude.{slice_index_or}
+use Rattle.std.proofs.Common.{pos, get_or, arith, ap, ◌∙◌, sym, w32, rules}
 use mir.Val.{SFits}
 use Rattle.evm_cells.specs.Unions.{Ends}
 use Rattle.evm_cells.proofs.Universe.{point_parts}

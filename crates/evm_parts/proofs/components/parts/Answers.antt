@@ -1,0 +1,53 @@
+use Rattle.std.proofs.Common.{◌≡◌, ◌-◌, ◌<◌, ℕ, ℤ, List, map, All, IfOk, length, ap, ap₂, sym, ◌∙◌, subst}
+use Rattle.evm_cells.specs.Parts.{parts}
+use Rattle.evm_cells.specs.Unions.{Ends}
+use Rattle.evm_cells.specs.Vertices.{evm, cells}
+use Rattle.evm_cells.proofs.Universe.{cell_set-cells}
+use Rattle.evm_rows.specs.Rows.{rows_of}
+use Rattle.evm_partition.specs.Partition.{partition}
+use Rattle.evm_parts.specs.Labels.{AreLabels}
+use Rattle.evm_parts.specs.Links.{AreNested}
+use Rattle.evm_parts.specs.PartRows.{parts_at, AreApart}
+use Rattle.evm_parts.proofs.Apart.{partition_apart}
+use Rattle.evm_parts.proofs.NestedSlabs.{nested_partition}
+use Rattle.evm_parts.proofs.PartLists.{labels_within, all_parts}
+use Rattle.evm_parts.proofs.components.parts.Goals as goal
+
+-- what holds of the stated partition, of the boxes that were split off
+of_partition : (P : ℕ → List Ends → Type 0) (n m : ℕ) (boxes found : List Ends) → m ≡ n → found ≡ boxes → P n boxes → P m found
+of_partition P n m boxes found d b h = subst (λ (k : ℕ). P k found) (sym d) (subst (P n) (sym b) h)
+
+pub links-requires : goal.links-requires
+links-requires c =
+    let a = c.args.a in
+    let n : ℕ = a.width - a.skip in
+    let V : List (List ℤ) = rows_of a.flat.now a.width a.skip in
+    let S : List (List ℤ) = cells n V in
+    of_partition AreNested n c.in_ok-boxes.boxes.dim (partition n S) c.in_ok-boxes.boxes.boxes c.in_ok-boxes.ensures.dim c.in_ok-boxes.ensures.boxes (nested_partition n S (cell_set-cells n V))
+
+pub unions-requires-clause-within : goal.unions-requires-clause-within
+unions-requires-clause-within c =
+    subst (λ (ls : List ℕ). All (λ label. label < length ls) ls) (sym c.as_slice-2.ensures.value)
+    (labels_within c.in_ok-boxes.boxes.boxes c.in_ok-roots.roots.items c.in_ok-roots.ensures)
+
+pub unions-requires-clause-apart : goal.unions-requires-clause-apart
+unions-requires-clause-apart c =
+    let a = c.args.a in
+    let n : ℕ = a.width - a.skip in
+    let V : List (List ℤ) = rows_of a.flat.now a.width a.skip in
+    let S : List (List ℤ) = cells n V in
+    of_partition AreApart n c.in_ok-boxes.boxes.dim (partition n S) c.in_ok-boxes.boxes.boxes c.in_ok-boxes.ensures.dim c.in_ok-boxes.ensures.boxes (partition_apart n S (cell_set-cells n V))
+
+pub returns-clause-parts : goal.returns-clause-parts
+returns-clause-parts c =
+    let a = c.args.a in
+    let n : ℕ = a.width - a.skip in
+    let V : List (List ℤ) = rows_of a.flat.now a.width a.skip in
+    let S : List (List ℤ) = cells n V in
+    let labels = c.in_ok-roots.roots.items in
+    let are : AreLabels (partition n S) labels = subst (λ (bs : List Ends). AreLabels bs labels) c.in_ok-boxes.ensures.boxes c.in_ok-roots.ensures in
+    let e : parts_at c.in_ok-boxes.boxes.dim c.in_ok-boxes.boxes.boxes c.as_slice-2.result.now ≡ map (evm n) (parts S) =
+    ap (parts_at c.in_ok-boxes.boxes.dim c.in_ok-boxes.boxes.boxes) c.as_slice-2.ensures.value
+    ∙ ap₂ (λ (k : ℕ) (bs : List Ends). parts_at k bs labels) c.in_ok-boxes.ensures.dim c.in_ok-boxes.ensures.boxes
+    ∙ all_parts n S labels (cell_set-cells n V) are in
+    subst (λ Vs. IfOk c.unions.result (λ p. p.parts ≡ Vs)) e c.unions.ensures.parts
