@@ -59,23 +59,23 @@ heights_are_at m n i V D one l v r s =
 lt_of_less : (x y : ℤ) → int_cmp x y ≡ Less → int_lt x y ≡ true
 lt_of_less x y e = grind (arith, int_facts)
 
--- numbers that are kept once
-any-kept : (E : ℤ → ℤ → Bool) → ((x y : ℤ) → E x y ≡ true → x ≡ y) → (h k : ℤ) (xs : List ℤ) → list_any (int_eq h) (dedup_from E k xs) ≡ (int_eq h k || list_any (int_eq h) xs)
-any-kept E eq h k [] = refl
-any-kept E eq h k (x ∷ xs) = at_test (E x k) refl (any-kept E eq h k xs) (any-kept E eq h x xs)
+-- what is kept once passes the same tests
+any-kept : {X : Type 0} (f : X → Bool) (E : X → X → Bool) → ((x y : X) → E x y ≡ true → x ≡ y) → (k : X) (xs : List X) → list_any f (dedup_from E k xs) ≡ (f k || list_any f xs)
+any-kept f E eq k [] = refl
+any-kept {X} f E eq k (x ∷ xs) = at_test (E x k) refl (any-kept f E eq k xs) (any-kept f E eq x xs)
   where
     twice : (a b : Bool) → (a || b) ≡ (a || (a || b))
     twice true b = refl
     twice false b = refl
 
-    at_test : (b : Bool) → E x k ≡ b → list_any (int_eq h) (dedup_from E k xs) ≡ (int_eq h k || list_any (int_eq h) xs) → list_any (int_eq h) (dedup_from E x xs) ≡ (int_eq h x || list_any (int_eq h) xs)
-        → list_any (int_eq h) (cond b (dedup_from E k xs) (k ∷ dedup_from E x xs)) ≡ (int_eq h k || (int_eq h x || list_any (int_eq h) xs))
-    at_test true e f g = f ∙ twice (int_eq h k) (list_any (int_eq h) xs) ∙ ap (λ z. int_eq h k || (int_eq h z || list_any (int_eq h) xs)) (sym (eq x k e))
-    at_test false e f g = ap (λ b. int_eq h k || b) g
+    at_test : (b : Bool) → E x k ≡ b → list_any f (dedup_from E k xs) ≡ (f k || list_any f xs) → list_any f (dedup_from E x xs) ≡ (f x || list_any f xs)
+        → list_any f (cond b (dedup_from E k xs) (k ∷ dedup_from E x xs)) ≡ (f k || (f x || list_any f xs))
+    at_test true e g h = g ∙ twice (f k) (list_any f xs) ∙ ap (λ (z : X). f k || (f z || list_any f xs)) (sym (eq x k e))
+    at_test false e g h = ap (λ b. f k || b) h
 
-any-once : (h : ℤ) (xs : List ℤ) → list_any (int_eq h) (dedup int_eq xs) ≡ list_any (int_eq h) xs
-any-once h [] = refl
-any-once h (x ∷ xs) = any-kept int_eq eq_is h x xs
+pub any-once : {X : Type 0} (f : X → Bool) (E : X → X → Bool) → ((x y : X) → E x y ≡ true → x ≡ y) → (xs : List X) → list_any f (dedup E xs) ≡ list_any f xs
+any-once f E eq [] = refl
+any-once f E eq (x ∷ xs) = any-kept f E eq x xs
 
 all-less : (x : ℤ) (xs : List ℤ) → AllByRecursion (λ y. int_cmp x y ≡ Less) xs → list_all (int_lt x) xs ≡ true
 all-less x [] a = refl
@@ -94,4 +94,4 @@ pub cut_list : (m n i : ℕ) (V : List (List ℤ)) (H S D : List ℤ) → n + 1 
 cut_list m n i V H S D one l v e p o d =
     let r : rising int_lt D ≡ true = ap (rising int_lt) d ∙ rising-strict (dedup int_eq S) (IsStrictlySortedBy-dedup int_cmp_total ties S o) in
     heights_are_at m n i V D one l v r
-    (λ h. ap (list_any (int_eq h)) d ∙ any-once h S ∙ sym (list_any-IsPermutation (int_eq h) H S p) ∙ ap (list_any (int_eq h)) e)
+    (λ h. ap (list_any (int_eq h)) d ∙ any-once (int_eq h) int_eq eq_is S ∙ sym (list_any-IsPermutation (int_eq h) H S p) ∙ ap (list_any (int_eq h)) e)

@@ -1,5 +1,5 @@
 -- The heights at which the section of a solid changes, and the two parts of its couplet there. Axes are counted from 1.
-use Rattle.std.specs.Prelude.{ℕ, ◌-◌, ℤ, pos, ◌-ℤ◌, List, map, get_or}
+use Rattle.std.specs.Prelude.{ℕ, ◌-◌, ℤ, pos, List, map, get_or}
 use Rattle.evm_cells.specs.Booleans.{sub_cells}
 use Rattle.evm_cells.specs.Sections.{cuts, rising, falling}
 use Rattle.evm_rows.specs.Rows.{Vertices, cells_of}

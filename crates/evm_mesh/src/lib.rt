@@ -6,6 +6,11 @@
 
 mod faces;
 mod mesh;
+mod sheets;
+mod vertices;
 
 pub use faces::write_faces;
 pub use mesh::write_obj;
+
+#[cfg(test)]
+mod tests;

@@ -1,0 +1,4 @@
+pub mod SheetSteps
+pub mod FaceLines
+pub mod CornerLists
+pub mod VertexNumbers
