@@ -35,8 +35,24 @@ fn are_linked(alloc: Global, whole: &[i32], other: &[i32], pairs: &[(usize, usiz
         && found.iter().zip(pairs).all(|(link, pair)| link.first == pair.0 && link.second == pair.1)
 }
 
-// Two runs of a line; a ring; two squares that meet at a corner; two cubes that share an edge; the shells of a cube and of a box of
-// four dimensions.
+// The faces that the boxes of a cube without its middle share.
+const SHELL: [(usize, usize); 12] = [
+    (0, 1),
+    (0, 2),
+    (0, 3),
+    (0, 4),
+    (1, 2),
+    (1, 3),
+    (2, 4),
+    (3, 4),
+    (1, 5),
+    (2, 5),
+    (3, 5),
+    (4, 5),
+];
+
+// Two runs of a line; a ring; two squares that meet at a corner; two cubes that share an edge; a cube without its middle; a box of
+// four dimensions with a hole.
 #[test]
 fn boxes_that_share_faces_are_linked(rt: HostRuntime) {
     let alloc = rt.alloc();
@@ -54,22 +70,8 @@ fn boxes_that_share_faces_are_linked(rt: HostRuntime) {
         are_linked(alloc, &[0, 0, 0, 1, 1, 1], &[1, 0, 1, 2, 1, 2], &[]),
         "an edge"
     );
-    let shell = [
-        (0, 1),
-        (0, 2),
-        (0, 3),
-        (0, 4),
-        (1, 2),
-        (1, 3),
-        (2, 4),
-        (3, 4),
-        (1, 5),
-        (2, 5),
-        (3, 5),
-        (4, 5),
-    ];
     assert!(rt;
-        are_linked(alloc, &[0, 0, 0, 3, 3, 3], &[1, 1, 1, 2, 2, 2], &shell),
+        are_linked(alloc, &[0, 0, 0, 3, 3, 3], &[1, 1, 1, 2, 2, 2], &SHELL),
         "a shell"
     );
     let within = [(0, 1), (1, 2)];

@@ -206,7 +206,12 @@ fn append_touching(
     Ok(())
 }
 
-/// The links between the boxes of a list that stands in nested slabs.
+/// The links between the boxes of a list that stands in nested slabs, as those of the stated partition do.
+///
+/// Each slab is laid beside the next one of the same axis, and where the two meet, their own slabs are gone through side by side, axis by
+/// axis. What lies on one side with nothing beside it is passed over in growing strides. So the work is that of the slabs that overlap
+/// on all axes passed, and of the gaps between them, each times the logarithm of the boxes passed over; no box is compared with all
+/// others. Takes memory for the links alone; calls nest as deep as there are axes. The one error is want of memory.
 pub(crate) fn links(alloc: Global, boxes: &Boxes) -> Result<Vec<Link>, NoMemory>
     requires { AreNested boxes.now.dim boxes.now.boxes }
     ensures { IfOk result (λ v. AreLinks boxes.now.boxes v.items) }
