@@ -1,9 +1,8 @@
 -- The boxes of the stated partition stand in nested slabs.
-use Rattle.std.proofs.Common.{◌≡◌, ℕ, zero, suc, ◌+◌, ◌<◌, ◌≤◌, ◌⊎◌, inl, inr, List, [], ◌∷◌, ◌++◌, map, length, ℤ, ◌≤ℤ◌, refl, sym, subst, arith, All}
+use Rattle.std.proofs.Common.{◌≡◌, ℕ, zero, suc, ◌<◌, inl, inr, List, [], ◌∷◌, ◌++◌, map, length, ℤ, ◌≤ℤ◌, refl, sym, subst, arith, All}
 use Rattle.std.proofs.lemmas.Int.{ints as int_facts}
 use Rattle.std.proofs.lemmas.List.Elements.{All-nil, All-append, All-map, All-weaker, All-head, All-tail}
 use Rattle.evm_cells.specs.Limits.{IsCellSet}
-use Rattle.evm_cells.specs.Boxes.{IsBox}
 use Rattle.evm_cells.specs.Sections.{slice, cuts}
 use Rattle.evm_cells.specs.Unions.{Ends}
 use Rattle.evm_cells.proofs.Slices.{cell_set-slice}
