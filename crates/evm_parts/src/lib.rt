@@ -14,3 +14,5 @@ pub use lists::Parts;
 
 #[cfg(test)]
 mod link_tests;
+#[cfg(test)]
+mod tests;

@@ -5,8 +5,8 @@ use evm_partition::split;
 use evm_rows::{Solid, xor};
 use std::alloc::Global;
 
-// A box, by the numbers of its lower corner and then those of its upper one.
-fn box_of(alloc: Global, row: &[i32]) -> Option<Solid> {
+/// A box, by the numbers of its lower corner and then those of its upper one.
+pub(crate) fn box_of(alloc: Global, row: &[i32]) -> Option<Solid> {
     let dim = row.len() / 2;
     if dim == 0 || 6 < dim || row.len() != 2 * dim {
         return None;
