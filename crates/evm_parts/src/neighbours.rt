@@ -1,4 +1,4 @@
-// The links between boxes that share faces of cells.
+//! The links between boxes that share faces of cells.
 ghost use Rattle.std.specs.Prelude.{◌≡◌, ◌+◌, ◌^◌, ◌<◌, ◌≤◌, ◌<ℤ◌, length, IfOk, OnOk};
 ghost use Rattle.evm_parts.specs.Links.{AreLinks, AreNested};
 ghost use Rattle.evm_parts.specs.Stretches.{low_at, high_at, IsNestedFrom, IsFirstAbove, IsFirstSlab, IsOverlap, IsMeeting, IsTouch, AreAppended};
