@@ -19,6 +19,7 @@ use Rattle.evm_formats.specs.Pgm.{pgm_cells}
 use Rattle.evm_formats.specs.Y4m.{y4m_cells}
 use Rattle.evm_formats.proofs.ImageSets.{cell_set-pgm, cell_set-y4m}
 use Rattle.evm_text.specs.Lines.{lines}
+use Rattle.evm_box_writer.proofs.Lines.{read_again}
 use Rattle.evm_script.specs.declared.files.LoadForm.{LoadForm}
 use Rattle.evm_script.specs.declared.files.LoadForm.TheVariants as forms
 use Rattle.evm_script.specs.declared.files.SaveForm.TheVariants as saves
@@ -153,3 +154,8 @@ saved_loads a bytes = by (is_its_file a.dim bytes) refl
 pub loaded_is_saved : (bytes : List ℕ) (a : Figure) → IsSolidCells a.dim a.cells → (figure_in forms.Evm a.dim bytes ≡ Some a) ↔ (bytes ≡ bytes_in saves.Evm a)
 unfolding figure_in bytes_in
 loaded_is_saved bytes a s = (saved_loads a bytes, loads_saved a bytes s)
+
+-- the box file of a solid is read again
+pub boxes_load : (a : Figure) → IsSolidCells a.dim a.cells → figure_in forms.Boxes a.dim (bytes_in saves.Boxes a) ≡ Some a
+unfolding figure_in bytes_in
+boxes_load a s = ap (λ (r : Result (List (List ℤ)) BoxFileError). figure_stated a.dim r) (read_again a.dim a.cells s.low s.high s.cells)

@@ -19,9 +19,9 @@ use Rattle.evm_script.specs.declared.files.LoadForm.{LoadForm}
 use Rattle.evm_script.specs.declared.files.SaveForm.{SaveForm}
 use Rattle.evm_model.specs.Files.{Fetches, bytes_in}
 use Rattle.evm_model.specs.Scene.{Scene, value, IsWell}
-use Rattle.evm_model.specs.Edits.{Code, first_cause, name_causes}
+use Rattle.evm_model.specs.Edits.{Code, first_cause}
 use Rattle.evm_model.specs.Replies.{Reply, reply_text, is_no}
-use Rattle.evm_model.specs.Steps.{Turn, unless_refused, saved, turn_of, line_turn, step, of_line}
+use Rattle.evm_model.specs.Steps.{Turn, unless_refused, save_causes, saved, turn_of, line_turn, step, of_line}
 use Rattle.evm_model.specs.Runs.{Mark, Plain, NoMemory, NoShelf, Fetched, World, with_placed, turned, fetched_from, answer, may_have, may_all_have, run, world_after, texts, some_no}
 use Rattle.evm_model.specs.Laws.{saves_to}
 use Rattle.std.proofs.lemmas.List.Folds.{list_any-append}
@@ -154,7 +154,7 @@ placed_own : (files : Files) (file bytes : List ℕ) → fetched_from (finite.in
 placed_own files file bytes = get-insert nat_list_cmp_total files file bytes file ∙ ap (λ (b : Bool). cond b (Some bytes) (fetched_from files file)) (is_eq-slice_cmp file file ∙ name_itself file)
 
 kept_turn : (files : Files) (fetched : Fetches) (scene : Scene) (c : Command) (file : List ℕ) → saves_to file c ≡ false → fetched_from (with_placed files (turn_of fetched scene c).placed) file ≡ fetched_from files file
-kept_turn files fetched scene (commands.Save name form to) file d = by (first_cause (name_causes scene name))
+kept_turn files fetched scene (commands.Save name form to) file d = by (first_cause (save_causes scene name form))
   where
     by : (o : Option Code) → fetched_from (with_placed files (unless_refused o scene (saved scene to (bytes_in form (value scene name)))).placed) file ≡ fetched_from files file
     by None = placed_other files to (bytes_in form (value scene name)) file d

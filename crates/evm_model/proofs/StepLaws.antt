@@ -116,7 +116,7 @@ quiet_way fetched scene (Edits edit) p =
     let q = plain_edit scene edit in quiet fetched scene (Edits edit) (mild_unless is_outer scene _ (edit_causes scene edit) q.0 q.1)
 quiet_way fetched scene (Asks causes answer) p = quiet fetched scene (Asks causes answer) (mild_unless is_outer scene _ (causes scene) (p scene).0 (p scene).1)
 quiet_way fetched scene (Loads name form file) p = quiet_load fetched scene name file form
-quiet_way fetched scene (Saves name form file) p = quiet fetched scene (Saves name form file) (mild_unless is_outer scene _ (save_causes scene name) refl refl)
+quiet_way fetched scene (Saves name form file) p = quiet fetched scene (Saves name form file) (mild_unless is_outer scene _ (save_causes scene name form) refl refl)
 
 quiet_fault : (scene : Scene) (e : LineError) → IsMild is_outer scene (stays scene (fault_reply e))
 quiet_fault scene faults.Long = (λ h. (refl, refl), refl)
@@ -171,7 +171,7 @@ leaves scene (Some code) turn h = refl
 
 question_way : (fetched : Fetches) (scene : Scene) (way : Way) → is_edit_way way ≡ false → (way_turn fetched scene way).scene ≡ scene
 question_way fetched scene (Asks causes answer) h = leaves scene (first_cause (causes scene)) _ refl
-question_way fetched scene (Saves name form file) h = leaves scene (first_cause (save_causes scene name)) _ refl
+question_way fetched scene (Saves name form file) h = leaves scene (first_cause (save_causes scene name form)) _ refl
 question_way fetched scene _ h = absurd (false≢true (sym h))
 
 pub question_leaves : (fetched : Fetches) (scene : Scene) (line : List ℕ) (c : Command) → command line ≡ Ok c → is_edit c ≡ false → (step fetched scene line).scene ≡ scene
@@ -210,7 +210,7 @@ pub save_places : (fetched : Fetches) (scene : Scene) (line name file : List ℕ
 unfolding step
 save_places fetched scene line name file form e h =
     ap (λ (r : Result Command LineError). (line_turn fetched scene r).placed) e
-    ∙ made scene (first_cause (name_causes scene name)) (saved scene file (bytes_in form (value scene name))) (sym (ap (λ (r : Result Command LineError). is_no (line_turn fetched scene r).reply) e) ∙ h)
+    ∙ made scene (first_cause (save_causes scene name form)) (saved scene file (bytes_in form (value scene name))) (sym (ap (λ (r : Result Command LineError). is_no (line_turn fetched scene r).reply) e) ∙ h)
 
 -- a line asks the shelf exactly where it fetches or saves
 not_refused : (scene : Scene) (o : Option Code) (turn : Turn) → is_no turn.reply ≡ false → is_none o ≡ not (is_no (unless_refused o scene turn).reply)
@@ -220,7 +220,7 @@ not_refused scene (Some code) turn h = refl
 asked_way : (fetched : Fetches) (scene : Scene) (way : Way)
     → way_asks scene way ≡ (way_fetches scene way || (is_save_way way && not (is_no (way_turn fetched scene way).reply)))
 asked_way fetched scene (Loads name form file) = sym (or-false (is_none (first_cause (load_causes scene name form))))
-asked_way fetched scene (Saves name form file) = not_refused scene (first_cause (save_causes scene name)) (saved scene file (bytes_in form (value scene name))) refl
+asked_way fetched scene (Saves name form file) = not_refused scene (first_cause (save_causes scene name form)) (saved scene file (bytes_in form (value scene name))) refl
 asked_way fetched scene _ = refl
 
 asked_line : (fetched : Fetches) (scene : Scene) (r : Result Command LineError)

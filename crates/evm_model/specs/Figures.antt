@@ -1,11 +1,12 @@
 -- Figures: the solids of a scene, each a cell set with its dimension.
-use Rattle.std.specs.Prelude.{ℕ, ◌+◌, ◌-◌, ◌==◌, Bool, ◌&&◌, if◌then◌else◌, ℤ, List, [], length, take, drop}
+use Rattle.std.specs.Prelude.{ℕ, ◌+◌, ◌-◌, ◌==◌, Bool, ◌&&◌, if◌then◌else◌, ℤ, List, [], length, map, take, drop}
 use Rattle.std.specs.List.{list_all}
 use Rattle.evm_cells.specs.Places.{has}
 use Rattle.evm_cells.specs.Booleans.{or_cells, and_cells, sub_cells, xor_cells}
 use Rattle.evm_cells.specs.Vertices.{evm}
 use Rattle.evm_cells.specs.Boxes.{box_cells, is_box}
-use Rattle.evm_cells.specs.Sections.{slice}
+use Rattle.evm_cells.specs.Sections.{slice, cuts, rising, falling}
+use Rattle.evm_cells.specs.Parts.{parts}
 use Rattle.evm_cells.specs.Shapes.{shift, shift_fits, mirror, swap_axes, clip, proj, lift, lift_fits}
 use Rattle.evm_cells.specs.Measures.{content, boundary, is_inside, is_outside}
 
@@ -105,6 +106,29 @@ content_of a = content a.cells
 -- the number of pairs of neighbouring places of which just one is a cell
 unfoldable pub boundary_of : Figure → ℕ
 boundary_of a = boundary a.dim a.cells
+
+-- the parts, each a figure of its own, ascending by their least cells: two cells are in one part where a chain of cells that share
+-- faces leads from one to the other
+unfoldable pub parts_of : Figure → List Figure
+parts_of a = map (λ c. record { dim = a.dim; cells = c }) (parts a.cells)
+
+-- the faces at a cut of an axis: its height, the content of what rises there, and of what falls there
+pub record CutFaces : Type 0 where
+  pub at : ℤ
+  pub rises : ℕ
+  pub falls : ℕ
+
+-- those at a height
+abbrev pub faces_at : ℕ → Figure → ℤ → CutFaces
+faces_at axis a h = record {
+  at = h;
+  rises = content (rising (a.dim - 1) (axis - 1) h a.cells);
+  falls = content (falling (a.dim - 1) (axis - 1) h a.cells);
+}
+
+-- those at each cut of the axis, ascending
+unfoldable pub faces_of : ℕ → Figure → List CutFaces
+faces_of axis a = map (faces_at axis a) (cuts (a.dim - 1) (axis - 1) a.cells)
 
 -- whether a place is one of the cells
 unfoldable pub fills : Figure → List ℤ → Bool

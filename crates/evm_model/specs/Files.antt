@@ -1,8 +1,11 @@
 -- Files by name, and what the bytes of a file state in the form that a command names.
-use Rattle.std.specs.Prelude.{ℕ, nat_abs, nat_le, Bool, true, List, Option, None, Some, Result, Ok, Err, ℤ, pos, int_le, ◌&&◌, bytes_eq, if◌then◌else◌}
+use Rattle.std.specs.Prelude.{ℕ, ◌==◌, nat_abs, nat_le, Bool, true, List, Option, None, Some, Result, Ok, Err, ℤ, pos, int_le, ◌&&◌, bytes_eq, if◌then◌else◌}
 use Rattle.evm_cells.specs.Vertices.{cells}
 use Rattle.evm_formats.specs.File.{file_of_cells, stated_rows}
 use Rattle.evm_formats.specs.BoxFile as boxes
+use Rattle.evm_formats.specs.BoxText.{box_file}
+use Rattle.evm_formats.specs.FaceText.{face_file}
+use Rattle.evm_formats.specs.ObjText.{obj_file}
 use Rattle.evm_formats.specs.Pgm.{pgm_cells}
 use Rattle.evm_formats.specs.Y4m.{y4m_cells}
 use Rattle.evm_script.specs.declared.files.LoadForm.{LoadForm}
@@ -66,6 +69,16 @@ abbrev pub or_nothing : ℕ → Option Figure → Figure
 or_nothing n None = nothing n
 or_nothing n (Some a) = a
 
--- the bytes of the file of a figure
+-- whether solids of dimension n are saved in a form: a mesh has three dimensions
+abbrev pub save_fits : SaveForm → ℕ → Bool
+save_fits saves.Evm n = true
+save_fits saves.Boxes n = true
+save_fits saves.Faces n = true
+save_fits saves.Obj n = n == 3
+
+-- the bytes of the file of a figure in a form
 unfoldable pub bytes_in : SaveForm → Figure → List ℕ
 bytes_in saves.Evm a = file_of_cells a.dim a.cells
+bytes_in saves.Boxes a = box_file a.dim a.cells
+bytes_in saves.Faces a = face_file a.dim a.cells
+bytes_in saves.Obj a = obj_file a.cells

@@ -325,6 +325,11 @@ abbrev pub SavedBytesLoad : Type 0
 SavedBytesLoad = (bytes : List ℕ) (a : Figure) → IsSolidCells a.dim a.cells
     → (figure_in forms.Evm a.dim bytes ≡ Some a) ↔ (bytes ≡ bytes_in saves.Evm a)
 
+-- the box file in which a solid is saved states this solid
+abbrev pub SavedBoxesLoad : Type 0
+SavedBoxesLoad = (a : Figure) → IsSolidCells a.dim a.cells
+    → figure_in forms.Boxes a.dim (bytes_in saves.Boxes a) ≡ Some a
+
 -- each figure that bytes state is a cell set of the dimension that was asked for, where the form fits it
 abbrev pub FiguresAreCellSets : Type 0
 FiguresAreCellSets = (form : LoadForm) (n : ℕ) (bytes : List ℕ) (a : Figure) → is_dim (pos n) ≡ true

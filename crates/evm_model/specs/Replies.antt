@@ -2,12 +2,13 @@
 use Rattle.std.specs.Prelude.{ℕ, ℤ, Bool, true, false, if◌then◌else◌, List, [], ◌∷◌, ◌++◌, length, codes, decimal, map, flat_map}
 use Rattle.std.specs.List.{join_with_byte}
 use Rattle.std.specs.Fmt.{signed_decimal}
-use Rattle.evm_model.specs.Figures.{Figure, Place, Inside, Boundary, Outside, vertices_in}
+use Rattle.evm_model.specs.Figures.{Figure, Place, Inside, Boundary, Outside, CutFaces, vertices_in, content_of}
 use Rattle.evm_script.specs.Printed.{formula_words}
 use Rattle.evm_model.specs.Scene.{Entry, What, Given, Made}
 use Rattle.evm_model.specs.Edits.{Code, Line, Syntax, Name, Taken, Kind, Used, Cycle, Dim, Range, Missing, Shelf, Form, Memory}
 
--- nothing, a refusal, how many names changed, a figure, a measure, whether a cell is filled, the place of a point, or the names
+-- nothing, a refusal, how many names changed, a figure, a measure, whether a cell is filled, the place of a point, the faces at the
+-- cuts of an axis, the parts of a figure, or the names
 pub data Reply : Type 0 where
   Empty : Reply
   No : Code → Reply
@@ -16,6 +17,8 @@ pub data Reply : Type 0 where
   Measured : ℕ → Reply
   Filled : Bool → Reply
   Placed : Place → Reply
+  Faced : List CutFaces → Reply
+  Parted : List Figure → Reply
   Listed : List Entry → Reply
 
 -- the word of a code
@@ -52,6 +55,22 @@ spaced numbers = join_with_byte 32 (map signed_decimal numbers)
 abbrev pub rows_text : List (List ℤ) → List ℕ
 rows_text rows = flat_map (λ row. line_of (spaced row)) rows
 
+-- the line of a cut: its height, how much rises and how much falls
+abbrev pub cut_text : CutFaces → List ℕ
+cut_text f = line_of (signed_decimal f.at ++ 32 ∷ decimal f.rises ++ 32 ∷ decimal f.falls)
+
+-- one line a cut
+abbrev pub cuts_text : List CutFaces → List ℕ
+cuts_text faces = flat_map cut_text faces
+
+-- a part: a line with the number of its extreme vertices and its content, and its extreme vertices, one line each
+abbrev pub part_text : Figure → List ℕ
+part_text a = line_of (codes "part " ++ decimal (length (vertices_in a)) ++ 32 ∷ decimal (content_of a)) ++ rows_text (vertices_in a)
+
+-- one after another
+abbrev pub parts_text : List Figure → List ℕ
+parts_text parts = flat_map part_text parts
+
 -- the words of what a name stands for: `input`, or those of its formula
 abbrev pub what_words : What → List (List ℕ)
 what_words (Given cells) = codes "input" ∷ []
@@ -75,6 +94,8 @@ reply_text (Shown a) = line_of (codes "ok " ++ decimal a.dim ++ 32 ∷ decimal (
 reply_text (Measured n) = line_of (codes "ok " ++ decimal n)
 reply_text (Filled full) = line_of (codes "ok " ++ (if full then codes "filled" else codes "empty"))
 reply_text (Placed place) = line_of (codes "ok " ++ place_text place)
+reply_text (Faced faces) = line_of (codes "ok " ++ decimal (length faces)) ++ cuts_text faces
+reply_text (Parted parts) = line_of (codes "ok " ++ decimal (length parts)) ++ parts_text parts
 reply_text (Listed entries) = line_of (codes "ok " ++ decimal (length entries)) ++ entries_text entries
 
 -- whether a reply refuses
@@ -86,4 +107,6 @@ is_no (Shown a) = false
 is_no (Measured n) = false
 is_no (Filled full) = false
 is_no (Placed place) = false
+is_no (Faced faces) = false
+is_no (Parted parts) = false
 is_no (Listed entries) = false

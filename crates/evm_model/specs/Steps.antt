@@ -8,11 +8,11 @@ use Rattle.evm_script.specs.declared.command.LineError.{LineError}
 use Rattle.evm_script.specs.declared.command.LineError.TheVariants as faults
 use Rattle.evm_script.specs.declared.files.LoadForm.{LoadForm}
 use Rattle.evm_script.specs.declared.files.SaveForm.{SaveForm}
-use Rattle.evm_model.specs.Figures.{Figure, content_of, boundary_of, fills, place_of, slice_of, proj_of}
-use Rattle.evm_model.specs.Files.{Fetches, form_fits, form_in_range, figure_fetched, or_nothing, bytes_in}
+use Rattle.evm_model.specs.Figures.{Figure, content_of, boundary_of, fills, place_of, slice_of, proj_of, faces_of, parts_of}
+use Rattle.evm_model.specs.Files.{Fetches, form_fits, form_in_range, figure_fetched, or_nothing, save_fits, bytes_in}
 use Rattle.evm_model.specs.Scene.{Scene, value, stands, dim_of, is_input}
 use Rattle.evm_model.specs.Edits.{Edit, Input, Toggle, Add, Cut, Replace, Def, Drop, Code, Line, Syntax, Name, Kind, Dim, Range, Missing, Form, first_cause, name_causes, place_causes, section_causes, axis_causes, value_causes, refusal, after, changed}
-use Rattle.evm_model.specs.Replies.{Reply, Empty, No, Changed, Shown, Measured, Filled, Placed, Listed}
+use Rattle.evm_model.specs.Replies.{Reply, Empty, No, Changed, Shown, Measured, Filled, Placed, Faced, Parted, Listed}
 
 -- what a line does: its reply, the scene after it, and the file that it places, as a name and its bytes
 pub record Turn : Type 0 where
@@ -70,8 +70,8 @@ load_turn fetched scene name form file =
     })
 
 -- what refuses a save before its file is placed
-abbrev pub save_causes : Scene → List ℕ → List (Bool × Code)
-save_causes scene name = name_causes scene name
+abbrev pub save_causes : Scene → List ℕ → SaveForm → List (Bool × Code)
+save_causes scene name form = (not (stands scene name), Name) ∷ (not (save_fits form (dim_of scene name)), Dim) ∷ []
 
 -- a file that is placed, which leaves the scene
 abbrev pub saved : Scene → List ℕ → List ℕ → Turn
@@ -79,7 +79,7 @@ saved scene file bytes = record { reply = Measured (length bytes); scene = scene
 
 -- a save that is refused, or places the file of the value of its name
 abbrev pub save_turn : Scene → List ℕ → SaveForm → List ℕ → Turn
-save_turn scene name form file = unless_refused (first_cause (save_causes scene name)) scene (saved scene file (bytes_in form (value scene name)))
+save_turn scene name form file = unless_refused (first_cause (save_causes scene name form)) scene (saved scene file (bytes_in form (value scene name)))
 
 -- the ways that commands go: an edit; a question, with what refuses it and its answer; a load; and a save
 pub data Way : Type 0 where
@@ -108,6 +108,9 @@ way_of (commands.Section name axis at) =
     of_value name (λ scene. section_causes scene name axis at) (λ a. Shown (slice_of (nat_abs axis) at a))
 way_of (commands.Project name axis) =
     of_value name (λ scene. axis_causes scene name axis) (λ a. Shown (proj_of (nat_abs axis) a))
+way_of (commands.Faces name axis) =
+    of_value name (λ scene. axis_causes scene name axis) (λ a. Faced (faces_of (nat_abs axis) a))
+way_of (commands.Parts name) = of_value name (λ scene. name_causes scene name) (λ a. Parted (parts_of a))
 way_of (commands.Content name) = of_value name (λ scene. name_causes scene name) (λ a. Measured (content_of a))
 way_of (commands.Boundary name) = of_value name (λ scene. name_causes scene name) (λ a. Measured (boundary_of a))
 way_of (commands.At name nums) =
@@ -161,7 +164,7 @@ command_fetches scene c = way_fetches scene (way_of c)
 -- whether a command asks the shelf: it fetches, or it is a save that nothing refuses
 abbrev pub way_asks : Scene → Way → Bool
 way_asks scene (Loads name form file) = is_none (first_cause (load_causes scene name form))
-way_asks scene (Saves name form file) = is_none (first_cause (save_causes scene name))
+way_asks scene (Saves name form file) = is_none (first_cause (save_causes scene name form))
 way_asks scene _ = false
 
 abbrev pub command_asks : Scene → Command → Bool

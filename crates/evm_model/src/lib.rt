@@ -26,7 +26,7 @@ ghost use Rattle.evm_model.specs.Laws.{OthersStay, OthersStand, InputsStartEmpty
 ghost use Rattle.evm_model.specs.Laws.{ChangedReachName, NewNamesChangeNone, DropsChangeNone, OneNameChanges};
 ghost use Rattle.evm_model.specs.Laws.{SameFigureStays, ToggleChangesName, ToggleCountsName};
 ghost use Rattle.evm_model.specs.Laws.{LoadsReadTheirFile, OthersReadNone, LoadsTakeFigure, MissingIsNoFile, MissingIsFetched, FormIsNoFigure};
-ghost use Rattle.evm_model.specs.Laws.{SavesPlaceValues, OnlySavesPlace, ShelfIsAsked, SavedBytesTellSolids, SavedBytesTellNames, SavedBytesLoad, FiguresAreCellSets};
+ghost use Rattle.evm_model.specs.Laws.{SavesPlaceValues, OnlySavesPlace, ShelfIsAsked, SavedBytesTellSolids, SavedBytesTellNames, SavedBytesLoad, SavedBoxesLoad, FiguresAreCellSets};
 ghost use Rattle.evm_model.specs.Laws.{RefusedLeavesWorld, AnswersKeepWell, RunsKeepWell, RunLeavesFiles, SavedFileIsThere, FetchedIsTold};
 ghost use Rattle.evm_model.specs.Laws.{OneReplyEach, FrontOfRun, LaterLinesWait, LinesHaveNoLf, LinesMakeScript};
 
@@ -146,9 +146,10 @@ pub fn loads_read_files()
 /// - `places`: a save that is not refused places the bytes of the value of its name.
 /// - `only`: no other line places a file.
 /// - `asks`: a line asks the shelf exactly where it fetches a file or is a save that its step does not refuse.
-/// - `solids`: two solids are saved in equal bytes exactly if they are equal.
-/// - `names`: so two names of one dimension are saved in equal bytes exactly if they have the same cells.
-/// - `loads`: bytes state a solid as an EVM file exactly if it is saved in these bytes.
+/// - `solids`: two solids have equal EVM files exactly if they are equal.
+/// - `names`: so two names of one dimension have equal EVM files exactly if they have the same cells.
+/// - `loads`: bytes state a solid as an EVM file exactly if they are its EVM file.
+/// - `boxes`: the box file in which a solid is saved states this solid.
 pub fn saves_write_files()
     ensures places { SavesPlaceValues }
     ensures only { OnlySavesPlace }
@@ -156,6 +157,7 @@ pub fn saves_write_files()
     ensures solids { SavedBytesTellSolids }
     ensures names { SavedBytesTellNames }
     ensures loads { SavedBytesLoad }
+    ensures boxes { SavedBoxesLoad }
 {}
 
 /// What the lines of a run leave of a scene and of the files of a shelf.

@@ -112,6 +112,11 @@ read_again (commands.Section name axis at) h =
 read_again (commands.Project name axis) h =
     with_number (codes "project") name axis refl h.0 h.1
     ∙ ap (λ (o : Option (List ℕ × ℤ)). or_syntax (option_map (of_pair commands.Project) o)) (name_number_again name axis h.0 h.1)
+read_again (commands.Faces name axis) h =
+    with_number (codes "faces") name axis refl h.0 h.1
+    ∙ ap (λ (o : Option (List ℕ × ℤ)). or_syntax (option_map (of_pair commands.Faces) o)) (name_number_again name axis h.0 h.1)
+read_again (commands.Parts name) h =
+    with_name (codes "parts") name refl h ∙ ap (λ (o : Option (List ℕ)). or_syntax (option_map commands.Parts o)) (name_again name h)
 read_again (commands.Save name form file) h = save_again name form file h.0 h.1
 read_again commands.List h = read_spaced (codes "list" ∷ []) refl (omega arith)
 

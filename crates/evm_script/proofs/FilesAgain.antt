@@ -77,3 +77,18 @@ words_of_save saves.Evm file h = record {
   few = omega arith;
   read = zip_again saves.Evm file refl (file_again file h);
 }
+words_of_save saves.Boxes file h = record {
+  plain = plain_more (codes "boxes") (file ∷ []) refl (one_file file h);
+  few = omega arith;
+  read = zip_again saves.Boxes file refl (file_again file h);
+}
+words_of_save saves.Faces file h = record {
+  plain = plain_more (codes "faces") (file ∷ []) refl (one_file file h);
+  few = omega arith;
+  read = zip_again saves.Faces file refl (file_again file h);
+}
+words_of_save saves.Obj file h = record {
+  plain = plain_more (codes "obj") (file ∷ []) refl (one_file file h);
+  few = omega arith;
+  read = zip_again saves.Obj file refl (file_again file h);
+}

@@ -42,9 +42,14 @@ name_load (name ∷ rest) = option_zip (name_of name) (form_file rest)
 
 -- the form of a file that is saved
 abbrev pub save_form : List ℕ → Option SaveForm
-save_form word = if same_bytes word (codes "evm") then Some saves.Evm else None
+save_form word =
+    if same_bytes word (codes "evm") then Some saves.Evm
+    else if same_bytes word (codes "boxes") then Some saves.Boxes
+    else if same_bytes word (codes "faces") then Some saves.Faces
+    else if same_bytes word (codes "obj") then Some saves.Obj
+    else None
 
--- the shape `evm FILE`
+-- the shapes `evm FILE`, `boxes FILE`, `faces FILE` and `obj FILE`
 abbrev pub save_file : List (List ℕ) → Option (SaveForm × List ℕ)
 save_file [] = None
 save_file (form ∷ []) = None

@@ -42,6 +42,9 @@ load_words (forms.Y4m threshold) file = codes "y4m" ∷ signed_decimal threshold
 -- the words of a form and a file, as they stand after `save NAME`
 abbrev pub save_words : SaveForm → List ℕ → List (List ℕ)
 save_words saves.Evm file = codes "evm" ∷ file ∷ []
+save_words saves.Boxes file = codes "boxes" ∷ file ∷ []
+save_words saves.Faces file = codes "faces" ∷ file ∷ []
+save_words saves.Obj file = codes "obj" ∷ file ∷ []
 
 -- the words of a command, each number in plain decimal
 abbrev pub command_words : Command → List (List ℕ)
@@ -60,6 +63,8 @@ command_words (commands.At name nums) = codes "at" ∷ name ∷ map signed_decim
 command_words (commands.Point name nums) = codes "point" ∷ name ∷ map signed_decimal nums
 command_words (commands.Section name axis at) = codes "section" ∷ name ∷ signed_decimal axis ∷ signed_decimal at ∷ []
 command_words (commands.Project name axis) = codes "project" ∷ name ∷ signed_decimal axis ∷ []
+command_words (commands.Faces name axis) = codes "faces" ∷ name ∷ signed_decimal axis ∷ []
+command_words (commands.Parts name) = codes "parts" ∷ name ∷ []
 command_words (commands.Save name form file) = codes "save" ∷ name ∷ save_words form file
 command_words commands.List = codes "list" ∷ []
 
@@ -107,6 +112,8 @@ KeepsRules (commands.At name nums) = (is_name name ≡ true) × (keeps_nums nums
 KeepsRules (commands.Point name nums) = (is_name name ≡ true) × (keeps_nums nums ≡ true)
 KeepsRules (commands.Section name axis at) = (is_name name ≡ true) × (in_number_range axis ≡ true) × (in_number_range at ≡ true)
 KeepsRules (commands.Project name axis) = (is_name name ≡ true) × (in_number_range axis ≡ true)
+KeepsRules (commands.Faces name axis) = (is_name name ≡ true) × (in_number_range axis ≡ true)
+KeepsRules (commands.Parts name) = is_name name ≡ true
 KeepsRules (commands.Save name form file) = (is_name name ≡ true) × (is_file_name file ≡ true)
 KeepsRules commands.List = Unit {0}
 

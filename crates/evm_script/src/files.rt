@@ -89,4 +89,10 @@ pub enum LoadForm {
 pub enum SaveForm {
     /// `evm`: by its extreme vertices, as `load NAME evm FILE` reads them.
     Evm,
+    /// `boxes`: by the boxes of its stated partition, as `load NAME boxes FILE` reads them.
+    Boxes,
+    /// `faces`: by the boxes of its faces, axis by axis.
+    Faces,
+    /// `obj`: as a mesh of rectangles. That a solid has three dimensions is for the scene to say.
+    Obj,
 }

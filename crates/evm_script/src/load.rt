@@ -65,7 +65,7 @@ pub(crate) fn name_then_save(rest: &[&[u8]]) -> Option<(Name, (SaveForm, FileNam
     }
 }
 
-/// `evm FILE`.
+/// `evm FILE`, `boxes FILE`, `faces FILE` or `obj FILE`.
 fn save_then_file(words: &[&[u8]]) -> Option<(SaveForm, FileName)>
     ensures { result ≡ save_file (map (λ w. w.now) words.now) }
 {
@@ -81,6 +81,12 @@ fn save_form(word: &[u8]) -> Option<SaveForm>
 {
     if is(word, "evm") {
         Some(SaveForm::Evm)
+    } else if is(word, "boxes") {
+        Some(SaveForm::Boxes)
+    } else if is(word, "faces") {
+        Some(SaveForm::Faces)
+    } else if is(word, "obj") {
+        Some(SaveForm::Obj)
     } else {
         None
     }

@@ -42,6 +42,8 @@ fn reads_each_question(rt: HostRuntime) -> Result<(), Fail> {
         ("point a_1 4 -5", Command::Point { name, nums }),
         ("section a_1 2 -3", Command::Section { name, axis, at }),
         ("project a_1 2", Command::Project { name, axis }),
+        ("faces a_1 2", Command::Faces { name, axis }),
+        ("parts a_1", Command::Parts { name }),
         (" list ", Command::List),
     ];
     for (line, want) in cases {
@@ -94,11 +96,18 @@ fn reads_each_form_of_a_file(rt: HostRuntime) -> Result<(), Fail> {
         let want = Ok(Command::Load { name, form, file });
         assert_eq!(rt; read_line(rt.alloc(), line.as_bytes()), want, "{line}");
     }
-    let form = SaveForm::Evm;
-    let save = Command::Save { name, form, file };
-    let text = write_line(rt.alloc(), &save)?;
-    assert_eq!(rt; text.as_slice(), b"save a_1 evm Vox-1.t_x".as_slice());
-    assert_eq!(rt; read_line(rt.alloc(), text.as_slice()), Ok(save));
+    let saves = [
+        ("save a_1 evm Vox-1.t_x", SaveForm::Evm),
+        ("save a_1 boxes Vox-1.t_x", SaveForm::Boxes),
+        ("save a_1 faces Vox-1.t_x", SaveForm::Faces),
+        ("save a_1 obj Vox-1.t_x", SaveForm::Obj),
+    ];
+    for (line, form) in saves {
+        let save = Command::Save { name, form, file };
+        let text = write_line(rt.alloc(), &save)?;
+        assert_eq!(rt; text.as_slice(), line.as_bytes(), "{line}");
+        assert_eq!(rt; read_line(rt.alloc(), line.as_bytes()), Ok(save), "{line}");
+    }
     let form = LoadForm::Pgm(threshold);
     let text = write_line(rt.alloc(), &Command::Load { name, form, file })?;
     assert_eq!(rt; text.as_slice(), b"load a_1 pgm -7 Vox-1.t_x".as_slice());
@@ -125,7 +134,10 @@ fn refuses_other_lines(rt: HostRuntime) -> Result<(), Fail> {
         "load a pgm 7",
         "load a y4m 1 f g",
         "load a obj f",
-        "save a boxes f",
+        "load a faces f",
+        "save a pgm f",
+        "faces a",
+        "parts a 1",
         "save a evm f g",
     ];
     for line in lines {

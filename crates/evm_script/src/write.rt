@@ -78,6 +78,8 @@ fn put_command(text: &mut Vec<u8>, command: &Command) -> Result<(), NoMemory>
         Command::Point { name, nums } => put_name_numbers(text, b"point", name, nums),
         Command::Section { name, axis, at } => put_name_two(text, b"section", name, axis, at),
         Command::Project { name, axis } => put_name_number(text, b"project", name, axis),
+        Command::Faces { name, axis } => put_name_number(text, b"faces", name, axis),
+        Command::Parts { name } => put_name(text, b"parts", name),
         Command::Save { name, form, file } => put_save(text, name, form, file),
         Command::List => put_word(text, b"list"),
     }
@@ -122,6 +124,9 @@ fn put_save(
 {
     match form {
         SaveForm::Evm => put_form_file(text, b"save", name, b"evm", file),
+        SaveForm::Boxes => put_form_file(text, b"save", name, b"boxes", file),
+        SaveForm::Faces => put_form_file(text, b"save", name, b"faces", file),
+        SaveForm::Obj => put_form_file(text, b"save", name, b"obj", file),
     }
 }
 

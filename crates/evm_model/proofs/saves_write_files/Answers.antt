@@ -1,4 +1,4 @@
-use Rattle.evm_model.proofs.FileLaws.{told_apart, told_names, loaded_is_saved}
+use Rattle.evm_model.proofs.FileLaws.{told_apart, told_names, loaded_is_saved, boxes_load}
 use Rattle.evm_model.proofs.StepLaws.{save_places, only_saves, asked_shelf}
 use Rattle.evm_model.proofs.saves_write_files.Goals as goal
 
@@ -16,6 +16,9 @@ returns-clause-names c = told_names
 
 pub returns-clause-loads : goal.returns-clause-loads
 returns-clause-loads c = loaded_is_saved
+
+pub returns-clause-boxes : goal.returns-clause-boxes
+returns-clause-boxes c = boxes_load
 
 pub returns-clause-asks : goal.returns-clause-asks
 returns-clause-asks c = asked_shelf
