@@ -5,9 +5,11 @@
 //! above. The names rising and falling for them are this project's own.
 #![tactic(auto)]
 
+mod counts;
 mod heights;
 mod sides;
 
+pub use counts::{CutFaces, cut_faces};
 pub use heights::cuts;
 pub use sides::{falling, rising};
 

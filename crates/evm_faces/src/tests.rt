@@ -2,7 +2,7 @@
 ghost use Rattle.std.specs.Prelude.{◌≡◌, ◌<◌, ◌≤◌};
 ghost use Rattle.evm_cells.specs.Limits.{is_point_coord};
 
-use super::{cuts, falling, rising};
+use super::{cut_faces, cuts, falling, rising};
 use evm_rows::{Rows, Solid, limit, xor};
 use std::alloc::Global;
 
@@ -124,9 +124,48 @@ fn has_limit_faces(alloc: Global) -> bool {
     agrees(alloc, (2, bar), 1, heights, ends) && agrees(alloc, (2, &[]), 1, &[], &[(0, &[], &[])])
 }
 
+// Whether the faces at the cuts of an axis have these heights and contents.
+fn counts(
+    alloc: Global,
+    boxes: (usize, &[&[i32]]),
+    axis: usize,
+    want: &[(i32, u128, u128)],
+) -> bool {
+    let Some(solid) = solid_of(alloc, boxes.0, boxes.1) else {
+        return false;
+    };
+    if solid.dim() < 2 || axis == 0 || solid.dim() < axis {
+        return false;
+    }
+    let Ok(found) = cut_faces(alloc, solid.rows(), axis) else {
+        return false;
+    };
+    for (cut, (at, rises, falls)) in found.as_slice().iter().zip(want) {
+        if cut.at != *at || cut.rises != *rises || cut.falls != *falls {
+            return false;
+        }
+    }
+    found.len() == want.len()
+}
+
+// The ring across its second axis; the block across each.
+fn has_counts(alloc: Global) -> bool {
+    let ring: &[&[i32]] = &[&[0, 0, 3, 3], &[1, 1, 2, 2]];
+    let block: &[&[i32]] = &[&[0, 1, 2, 1, 3, 5]];
+    counts(
+        alloc,
+        (2, ring),
+        2,
+        &[(0, 3, 0), (1, 0, 1), (2, 1, 0), (3, 0, 3)],
+    ) && counts(alloc, (3, block), 1, &[(0, 6, 0), (1, 0, 6)])
+        && counts(alloc, (3, block), 2, &[(1, 3, 0), (3, 0, 3)])
+        && counts(alloc, (3, block), 3, &[(2, 2, 0), (5, 0, 2)])
+}
+
 #[test]
 fn faces(rt: HostRuntime) {
     let alloc = rt.alloc();
+    assert!(rt; has_counts(alloc));
     assert!(rt; has_l_faces(alloc));
     assert!(rt; has_hole_faces(alloc));
     assert!(rt; has_block_faces(alloc, 1, 0, 1, &[1, 2, 1, 5, 3, 2, 3, 5]));

@@ -16,7 +16,7 @@ pub use prisms::lift;
 pub use projections::project;
 pub use shifts::{ShapeError, shift};
 pub use slices::slice;
-pub use turns::{mirror, swap};
+pub use turns::{fronted, mirror, swap};
 
 #[cfg(test)]
 mod tests;

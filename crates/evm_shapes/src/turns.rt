@@ -63,7 +63,7 @@ pub fn swap(alloc: Global, a: Rows<'_>, i: usize, j: usize) -> Result<Solid, NoM
 
 /// The solid with an axis put first, and the others after it in their order. Axes are counted from 1. The rows are sorted
 /// once, as in `swap`.
-pub(crate) fn fronted(alloc: Global, a: Rows<'_>, axis: usize) -> Result<Solid, NoMemory>
+pub fn fronted(alloc: Global, a: Rows<'_>, axis: usize) -> Result<Solid, NoMemory>
     requires low { 0 < axis }
     requires high { axis ≤ (vertices_of a).dim }
     ensures dim { IfOk result (λ s. s.dim ≡ (vertices_of a.entry).dim) }
