@@ -4,7 +4,7 @@ use Rattle.std.proofs.lemmas.List.{length-take-le}
 use Rattle.evm_scene.proofs.Corners.{must_fit}
 use Rattle.std.proofs.lemmas.Int.{ints}
 use Rattle.evm_cells.specs.Places.{each, has}
-use Rattle.evm_cells.specs.Limits.{is_cell, is_point, IsCellSet}
+use Rattle.evm_cells.specs.Limits.{is_cell, is_point}
 use Rattle.evm_cells.specs.Boxes.{is_box}
 use Rattle.evm_cells.specs.Shapes.{clip}
 use Rattle.evm_cells.proofs.Coords.{le_yes}

@@ -10,3 +10,4 @@ pub mod Marks
 pub mod Loading
 pub mod Filed
 pub mod Refused
+pub mod Counting

@@ -10,11 +10,11 @@ use Rattle.evm_script.specs.declared.files.LoadForm.{LoadForm}
 use Rattle.evm_script.specs.declared.files.LoadForm.TheVariants as forms
 use Rattle.evm_script.specs.declared.files.SaveForm.{SaveForm}
 use Rattle.evm_model.specs.Figures.{Figure}
-use Rattle.evm_model.specs.Files.{Fetches, figure_in, figure_stated, or_nothing, form_fits, form_in_range, bytes_in}
+use Rattle.evm_model.specs.Files.{Fetches, figure_in, figure_stated, or_nothing, form_fits, form_in_range, save_fits, bytes_in}
 use Rattle.evm_model.specs.Scene.{Scene, stands, is_input, dim_of, value}
 use Rattle.evm_model.specs.Edits.{Code, Name, Kind, Dim, Range, Missing, Form, Replace, first_cause, value_causes, after, changed}
 use Rattle.evm_model.specs.Replies.{No, Changed, Measured, reply_text}
-use Rattle.evm_model.specs.Steps.{Turn, stays, unless_refused, edited, load_causes, file_causes, loaded, load_turn, saved}
+use Rattle.evm_model.specs.Steps.{Turn, stays, unless_refused, edited, load_causes, file_causes, loaded, load_turn, save_causes, saved, command_asks}
 use Rattle.evm_session.specs.declared.refusals.Refusal.{Refusal}
 use Rattle.evm_session.specs.declared.refusals.Refusal.TheVariants as refusals
 use Rattle.evm_session.specs.Answers.{ShelfView}
@@ -195,14 +195,34 @@ unread_carries refusals.Form scene name form file bytes before now h text e = (l
 unread_carries refusals.NoMemory scene name form file bytes before now h text e = (tt, subst (Extends before) (sym text) (extends_itself before), refl)
 unread_carries refusal scene name form file bytes before now h text e = absurd e
 
+-- a save by its causes, where the name stands
+save_by : (scene : Scene) (name : List ℕ) (form : SaveForm) (turn : Turn) (b : Bool) → stands scene name ≡ true → save_fits form (dim_of scene name) ≡ b
+    → unless_refused (first_cause (save_causes scene name form)) scene turn ≡ unless_refused (first_cause ((not b, Dim) ∷ [])) scene turn
+save_by scene name form turn b s f =
+    ap (λ (t : Bool). unless_refused (first_cause ((not t, Name) ∷ (not (save_fits form (dim_of scene name)), Dim) ∷ [])) scene turn) s
+    ∙ ap (λ (t : Bool). unless_refused (first_cause ((not t, Dim) ∷ [])) scene turn) f
+
+-- a save in a form that has no solids of the dimension
+pub save_unfit : (scene : Scene) (name : List ℕ) (form : SaveForm) (file before : List ℕ) (shelf : ShelfView) → stands scene name ≡ true → save_fits form (dim_of scene name) ≡ false
+    → CarriesOver (Err refusals.Dim) scene scene before before shelf shelf (request_of scene (commands.Save name form file))
+save_unfit scene name form file before shelf s f =
+    carried_alone (Err refusals.Dim) scene scene before before shelf (request_of scene (commands.Save name form file)) (stays scene (No Dim)) refl
+    (λ fetched. save_by scene name form (saved scene file (bytes_in form (value scene name))) false s f) (record { reply = refl; placed = refl }) (refl, refl, refl)
+
+-- a save that asks the shelf
+pub save_asks : (scene : Scene) (name : List ℕ) (form : SaveForm) (file : List ℕ) → stands scene name ≡ true → save_fits form (dim_of scene name) ≡ true → command_asks scene (commands.Save name form file) ≡ true
+save_asks scene name form file s f =
+    ap (λ (t : Bool). is_none (first_cause ((not t, Name) ∷ (not (save_fits form (dim_of scene name)), Dim) ∷ []))) s
+    ∙ ap (λ (t : Bool). is_none (first_cause ((not t, Dim) ∷ []))) f
+
 -- a save whose file was placed
-pub save_done : (scene : Scene) (name : List ℕ) (form : SaveForm) (file bytes before now : List ℕ) (shelf_old shelf_new : ShelfView) → stands scene name ≡ true → bytes ≡ bytes_in form (value scene name)
+pub save_done : (scene : Scene) (name : List ℕ) (form : SaveForm) (file bytes before now : List ℕ) (shelf_old shelf_new : ShelfView) → stands scene name ≡ true → save_fits form (dim_of scene name) ≡ true → bytes ≡ bytes_in form (value scene name)
     → now ≡ before ++ reply_text (Measured (length bytes)) → PlacesFile shelf_old.files shelf_new.files file bytes → shelf_new.faults ≡ shelf_old.faults → shelf_new.misses ≡ shelf_old.misses
     → CarriesOver (Ok tt) scene scene before now shelf_old shelf_new (request_of scene (commands.Save name form file))
-save_done scene name form file bytes before now shelf_old shelf_new s e text placed faults misses = record {
+save_done scene name form file bytes before now shelf_old shelf_new s f e text placed faults misses = record {
   turn = saved scene file bytes;
   made = one_turn shelf_old.files (request_of scene (commands.Save name form file)) (saved scene file bytes) refl
-      (λ fetched. ap (λ (b : Bool). unless_refused (first_cause ((not b, Name) ∷ [])) scene (saved scene file (bytes_in form (value scene name)))) s ∙ ap (saved scene file) (sym e));
+      (λ fetched. save_by scene name form (saved scene file (bytes_in form (value scene name))) true s f ∙ ap (saved scene file) (sym e));
   text = text;
   fine = refl;
   scene = refl;

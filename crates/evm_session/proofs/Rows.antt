@@ -13,7 +13,7 @@ use Rattle.evm_session.specs.Says.{Extends, Says, behind_spaces}
 use Rattle.evm_rows.specs.Rows.{Vertices, rows_of}
 use Rattle.evm_rows.specs.declared.solid.NoMemory.{NoMemory}
 
-append_nil : (xs : List ℕ) → xs ++ [] ≡ xs
+pub append_nil : (xs : List ℕ) → xs ++ [] ≡ xs
 append_nil [] = refl
 append_nil (x ∷ xs) = ap (λ (ys : List ℕ). x ∷ ys) (append_nil xs)
 
@@ -83,6 +83,12 @@ rows_done all left width skip before now e h =
 regroup : (before ok dim count : List ℕ) → ((((before ++ ok) ++ dim) ++ 32 ∷ []) ++ count) ++ 10 ∷ [] ≡ before ++ ((ok ++ dim ++ 32 ∷ count) ++ 10 ∷ [])
 regroup before ok dim count = simp append_assoc
 
+-- a line of a word and two numbers
+pub header_said : (word x y before a b c d header : List ℕ) → a ≡ before ++ word → b ≡ a ++ x → c ≡ b ++ 32 ∷ [] → d ≡ c ++ y → header ≡ d ++ 10 ∷ [] → header ≡ before ++ line_of (word ++ x ++ 32 ∷ y)
+header_said word x y before a b c d header ea eb ec ed eh =
+    eh ∙ ap (λ (t : List ℕ). t ++ 10 ∷ []) (ed ∙ ap (λ (t : List ℕ). t ++ y) (ec ∙ ap (λ (t : List ℕ). t ++ 32 ∷ []) (eb ∙ ap (λ (t : List ℕ). t ++ x) ea)))
+    ∙ regroup before word x y
+
 -- the header of a solid, and then its rows
 pub says_shown : (v : Vertices) (r : Result (Unit {0}) NoMemory) (dim count : ℕ) (before a b c d header now : List ℕ) → v.rows ≡ evm v.dim (cells v.dim v.rows) → dim ≡ v.dim → count ≡ length v.rows
     → a ≡ before ++ codes "ok " → b ≡ a ++ decimal dim → c ≡ b ++ 32 ∷ [] → d ≡ c ++ decimal count → header ≡ d ++ 10 ∷ []
@@ -90,9 +96,7 @@ pub says_shown : (v : Vertices) (r : Result (Unit {0}) NoMemory) (dim count : �
 unfolding reply_text vertices_in
 says_shown v r dim count before a b c d header now vertices n k ea eb ec ed eh h =
     let numbers : List ℕ → List ℕ → List ℕ = λ x y. line_of (codes "ok " ++ x ++ 32 ∷ y) in
-    let first : header ≡ before ++ numbers (decimal dim) (decimal count) =
-    eh ∙ ap (λ (t : List ℕ). t ++ 10 ∷ []) (ed ∙ ap (λ (t : List ℕ). t ++ decimal count) (ec ∙ ap (λ (t : List ℕ). t ++ 32 ∷ []) (eb ∙ ap (λ (t : List ℕ). t ++ decimal dim) ea)))
-    ∙ regroup before (codes "ok ") (decimal dim) (decimal count) in
+    let first : header ≡ before ++ numbers (decimal dim) (decimal count) = header_said (codes "ok ") (decimal dim) (decimal count) before a b c d header ea eb ec ed eh in
     let text = ap (λ (x : ℕ). numbers (decimal x) (decimal count) ++ rows_text v.rows) n
     ∙ ap (λ (x : ℕ). numbers (decimal v.dim) (decimal x) ++ rows_text v.rows) k
     ∙ ap (λ (rows : List (List ℤ)). numbers (decimal v.dim) (decimal (length rows)) ++ rows_text rows) vertices in

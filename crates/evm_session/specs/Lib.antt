@@ -6,3 +6,4 @@ pub mod Listed
 pub mod Carried
 pub mod Requests
 pub mod Loads
+pub mod Counted

@@ -10,9 +10,9 @@ ghost use Rattle.evm_session.specs.Requests.{names_file, request_of, line_reques
 use super::edits::{edit, edit_name};
 use super::files::{load, save};
 use super::lists::list;
-use super::questions::{at, boundary, content, point, show};
+use super::questions::{at, boundary, content, parts, point, show};
 use super::refusals::Refusal;
-use super::sections::{project, section};
+use super::sections::{faces, project, section};
 use evm_outside::Shelf;
 use evm_rows::NoMemory;
 use evm_scene::{Edit, Scene};
@@ -46,6 +46,8 @@ fn carry_out_alone(
         Command::Point { name, nums } => point(scene, alloc, &name, &nums, out),
         Command::Section { name, axis, at } => section(scene, alloc, &name, &axis, &at, out),
         Command::Project { name, axis } => project(scene, alloc, &name, &axis, out),
+        Command::Faces { name, axis } => faces(scene, alloc, &name, &axis, out),
+        Command::Parts { name } => parts(scene, alloc, &name, out),
         Command::Load { .. } | Command::Save { .. } => unreachable!(),
     }
 }

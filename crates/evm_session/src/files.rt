@@ -1,7 +1,7 @@
 //! Files of a shelf that are put in place of the cells of an input, and solids that are placed as files.
 
-ghost use Rattle.std.specs.Prelude.{◌≡◌, ◌≤◌, IfOk};
-ghost use Rattle.evm_model.specs.Files.{bytes_in};
+ghost use Rattle.std.specs.Prelude.{◌≡◌, ◌≤◌, true, IfOk};
+ghost use Rattle.evm_model.specs.Files.{bytes_in, save_fits};
 ghost use Rattle.evm_scene.specs.Tables.{figure_of};
 ghost use Rattle.evm_session.specs.Answers.{shelf_view};
 ghost use Rattle.evm_session.specs.Loads.{FindsInput};
@@ -12,6 +12,8 @@ use super::edits::edit;
 use super::readers::{check_form, read_form};
 use super::refusals::Refusal;
 use super::replies::{put_number, reserve_number};
+use evm_box_writer::write_boxes;
+use evm_mesh::{write_faces, write_obj};
 use evm_outside::Shelf;
 use evm_rows::{NoMemory, Solid};
 use evm_scene::{Edit, Scene};
@@ -63,19 +65,35 @@ pub fn load<S: Shelf>(
     edit(scene, alloc, Edit::Replace { name, solid }, out)
 }
 
-/// The bytes of the file of a solid.
+/// Whether solids of a dimension are saved in a form. Takes no memory.
+fn can_save(form: &SaveForm, dim: usize) -> bool
+    ensures { result ≡ save_fits form.now dim }
+{
+    match form {
+        SaveForm::Obj => dim == 3,
+        _ => true,
+    }
+}
+
+/// The bytes of the file of a solid in a form.
 #[tactic(auto, unfolding(evm_model::specs::Files::bytes_in))]
 fn write_form(alloc: Global, form: &SaveForm, solid: &Solid) -> Result<Vec<u8>, NoMemory>
+    requires deep { 2 ≤ solid.now.dim }
+    requires fits { save_fits form.now solid.now.dim ≡ true }
     ensures { IfOk result (λ bytes. bytes.items ≡ bytes_in form.now (figure_of solid.now)) }
 {
     match form {
         SaveForm::Evm => evm_file::write(alloc, solid),
+        SaveForm::Boxes => write_boxes(alloc, solid),
+        SaveForm::Faces => write_faces(alloc, solid),
+        SaveForm::Obj => write_obj(alloc, solid),
     }
 }
 
-/// Places the solid of a name as a file, and tells how many bytes it has. The room for the reply comes before the file.
+/// Places the solid of a name as a file of a form, and tells how many bytes it has. The room for the reply comes before the file.
 ///
-/// It is `Name` where the name does not stand, and `Shelf` where the shelf failed. Takes memory for the rows and the bytes.
+/// It is `Name` where the name does not stand, `Dim` where the form has no solids of its dimension, and `Shelf` where the shelf
+/// failed. Takes memory for the rows and the bytes, and for the boxes and faces that the form writes.
 pub fn save<S: Shelf>(
     scene: &Scene,
     alloc: Global,
@@ -90,9 +108,14 @@ pub fn save<S: Shelf>(
         (shelf_view (S.files shelf.new) (S.faults shelf.new) (S.misses shelf.new))
         (request_of scene.now (commands.Save name.now form.now file.now)) }
 {
+    scene.facts();
     let Some(tree) = scene.kept(name) else {
         return Err(Refusal::Name);
     };
+    tree.facts();
+    if !can_save(form, tree.dim()) {
+        return Err(Refusal::Dim);
+    }
     let solid = tree.to_rows(alloc)?;
     let bytes = write_form(alloc, form, &solid)?;
     reserve_number(out)?;

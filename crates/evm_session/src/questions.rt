@@ -9,9 +9,10 @@ ghost use Rattle.evm_script.specs.declared.command.Command.TheVariants as comman
 
 use super::cells::is_filled;
 use super::refusals::Refusal;
-use super::replies::{say, say_number, say_solid};
+use super::replies::{say, say_number, say_parts, say_solid};
 use evm_measure as measure;
 use evm_member::{Place, place};
+use evm_parts as components;
 use evm_rows::limit;
 use evm_scene::Scene;
 use evm_script::{Name, Nums};
@@ -55,6 +56,21 @@ pub fn boundary(scene: &Scene, alloc: Global, name: &Name, out: &mut Vec<u8>) ->
     let solid = tree.to_rows(alloc)?;
     let faces = measure::boundary(alloc, solid.rows())?;
     say_number(out, faces)?;
+    Ok(())
+}
+
+/// The parts: of each the number of its extreme vertices, its content, and the extreme vertices.
+pub fn parts(scene: &Scene, alloc: Global, name: &Name, out: &mut Vec<u8>) -> Result<(), Refusal>
+    ensures { Carries result scene.now scene.now out.old.items out.new.items
+        (turn_of no_files scene.now (commands.Parts name.now)) }
+{
+    let Some(tree) = scene.kept(name) else {
+        return Err(Refusal::Name);
+    };
+    tree.facts();
+    let solid = tree.to_rows(alloc)?;
+    let parts = components::parts(alloc, solid.rows())?;
+    say_parts(out, alloc, &parts)?;
     Ok(())
 }
 

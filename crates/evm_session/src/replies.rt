@@ -6,9 +6,14 @@ ghost use Rattle.evm_model.specs.Replies.{line_of, spaced, rows_text, reply_text
 ghost use Rattle.evm_rows.specs.View.{vertices_of};
 ghost use Rattle.evm_scene.specs.Tables.{figure_of};
 ghost use Rattle.evm_session.specs.Says.{Says, behind_spaces};
+ghost use Rattle.evm_session.specs.Counted.{cut_line, cuts_reply, part_lines, parts_reply};
 
+use evm_faces::CutFaces;
+use evm_measure::content;
+use evm_parts::Parts;
 use evm_rows::{NoMemory, Rows, Solid, split_row};
 use itoa::Buffer;
+use std::alloc::Global;
 
 /// Appends a text.
 pub fn say(out: &mut Vec<u8>, text: &[u8]) -> Result<(), NoMemory>
@@ -139,4 +144,56 @@ pub fn say_solid(out: &mut Vec<u8>, solid: &Solid) -> Result<(), NoMemory>
     say_count(out, solid.len() as u128)?;
     say(out, b"\n")?;
     say_rows(out, solid.rows())
+}
+
+/// Appends the line of a part, with the number of its extreme vertices and its content, and then its rows.
+fn say_part(out: &mut Vec<u8>, alloc: Global, part: Rows<'_>) -> Result<(), NoMemory>
+    ensures { Says result out.old.items out.new.items (part_lines (vertices_of part.entry)) }
+{
+    let cells = content(alloc, part)?;
+    say(out, b"part ")?;
+    say_count(out, part.len() as u128)?;
+    say(out, b" ")?;
+    say_count(out, cells)?;
+    say(out, b"\n")?;
+    say_rows(out, part)
+}
+
+/// Appends the reply `ok COUNT`, and each part with its rows.
+pub fn say_parts(out: &mut Vec<u8>, alloc: Global, parts: &Parts) -> Result<(), NoMemory>
+    ensures { Says result out.old.items out.new.items
+        (parts_reply parts.now.dim parts.now.parts) }
+{
+    say_number(out, parts.len() as u128)?;
+    for index in 0..parts.len() {
+        say_part(out, alloc, parts.rows(index))?;
+    }
+    Ok(())
+}
+
+/// Appends the line of a cut: its height, how much rises there and how much falls.
+fn say_cut(out: &mut Vec<u8>, cut: &CutFaces) -> Result<(), NoMemory>
+    ensures { Says result out.old.items out.new.items (cut_line cut.now) }
+{
+    say_coordinate(out, cut.at)?;
+    say(out, b" ")?;
+    say_count(out, cut.rises)?;
+    say(out, b" ")?;
+    say_count(out, cut.falls)?;
+    say(out, b"\n")
+}
+
+/// The most bytes of the line of a cut whose numbers have at most 40 digits.
+const CUT_BYTES: usize = 96;
+
+/// Appends the reply `ok COUNT`, and the line of each cut. The room for them is reserved once.
+pub fn say_cuts(out: &mut Vec<u8>, cuts: &[CutFaces]) -> Result<(), NoMemory>
+    ensures { Says result out.old.items out.new.items (cuts_reply cuts.now) }
+{
+    out.reserve(cuts.len().saturating_mul(CUT_BYTES))?;
+    say_number(out, cuts.len() as u128)?;
+    for cut in cuts {
+        say_cut(out, cut)?;
+    }
+    Ok(())
 }

@@ -1,4 +1,4 @@
-//! Sections and projections of the solid of a name.
+//! Sections and projections of the solid of a name, and its faces across an axis.
 
 ghost use Rattle.std.specs.Prelude.{◌≡◌, ◌-◌, ◌<◌, ◌≤◌, nat_abs, true, false, IfOk, MatchOption};
 ghost use Rattle.evm_cells.specs.Limits.{is_cell_coord};
@@ -11,7 +11,8 @@ ghost use Rattle.evm_session.specs.Carried.{Carries};
 ghost use Rattle.evm_script.specs.declared.command.Command.TheVariants as commands;
 
 use super::refusals::Refusal;
-use super::replies::say_solid;
+use super::replies::{say_cuts, say_solid};
+use evm_faces::cut_faces;
 use evm_rows::{NoMemory, Solid, limit};
 use evm_scene::Scene;
 use evm_script::{Name, Num};
@@ -117,5 +118,31 @@ pub fn project(
     let solid = tree.to_rows(alloc)?;
     let shadow = shapes::project(alloc, solid.rows(), axis)?;
     say_solid(out, &shadow)?;
+    Ok(())
+}
+
+/// How much rises and how much falls at each cut of an axis.
+pub fn faces(
+    scene: &Scene,
+    alloc: Global,
+    name: &Name,
+    axis: &Num,
+    out: &mut Vec<u8>,
+) -> Result<(), Refusal>
+    ensures { Carries result scene.now scene.now out.old.items out.new.items
+        (turn_of no_files scene.now (commands.Faces name.now axis.now)) }
+{
+    scene.facts();
+    let Some(tree) = scene.kept(name) else {
+        return Err(Refusal::Name);
+    };
+    tree.facts();
+    let dim = tree.dim();
+    let Some(axis) = axis_of(axis, dim) else {
+        return Err(Refusal::Dim);
+    };
+    let solid = tree.to_rows(alloc)?;
+    let cuts = cut_faces(alloc, solid.rows(), axis)?;
+    say_cuts(out, cuts.as_slice())?;
     Ok(())
 }

@@ -120,7 +120,7 @@ const FOLLOWED: [(&str, &str); 9] = [
 ];
 
 /// Two cubes one above the other, and what is refused of a question about an axis.
-const SECTIONS: [(&str, &str); 18] = [
+const SECTIONS: [(&str, &str); 24] = [
     ("input a 3", "ok 0\n"),
     ("add a 0 0 0 1 1 1", "ok 1\n"),
     ("add a 0 0 5 1 1 6", "ok 1\n"),
@@ -139,10 +139,31 @@ const SECTIONS: [(&str, &str); 18] = [
     ("add b 0 0 2 1", "ok 1\n"),
     ("section b 1 0", "ok 1 2\n0\n1\n"),
     ("project b 2", "ok 1 2\n0\n2\n"),
+    ("faces a 3", "ok 4\n0 1 0\n1 0 1\n5 1 0\n6 0 1\n"),
+    ("faces b 1", "ok 2\n0 1 0\n2 0 1\n"),
+    ("faces b 2", "ok 2\n0 2 0\n1 0 2\n"),
+    ("faces a 4", "no dim\n"),
+    ("faces b 0", "no dim\n"),
+    ("faces zz 1", "no name\n"),
+];
+
+/// Squares that meet at a corner, and nothing.
+const PARTS: [(&str, &str); 8] = [
+    ("input a 2", "ok 0\n"),
+    ("parts a", "ok 0\n"),
+    ("faces a 1", "ok 0\n"),
+    ("add a 1 1 2 2", "ok 1\n"),
+    ("add a 0 0 1 1", "ok 1\n"),
+    (
+        "parts a",
+        "ok 2\npart 4 1\n0 0\n0 1\n1 0\n1 1\npart 4 1\n1 1\n1 2\n2 1\n2 2\n",
+    ),
+    ("add a 0 1 1 2", "ok 1\n"),
+    ("parts zz", "no name\n"),
 ];
 
 /// A square that is saved once the shelf does not fail, and loaded into another input; and what is refused of files.
-const FILES: [(&str, &str); 15] = [
+const FILES: [(&str, &str); 22] = [
     ("input a 2", "ok 0\n"),
     ("add a 0 0 2 2", "ok 1\n"),
     ("save a evm a.evm", "no shelf\n"),
@@ -158,6 +179,13 @@ const FILES: [(&str, &str); 15] = [
     ("load b boxes a.evm", "no form\n"),
     ("load b pgm 65536 gone.pgm", "no range\n"),
     ("load c evm a.evm", "no kind\n"),
+    ("save a obj a.obj", "no dim\n"),
+    ("load b evm a.obj", "no missing\n"),
+    ("save zz obj a.obj", "no name\n"),
+    ("save a boxes a.txt", "ok 22\n"),
+    ("load b boxes a.txt", "ok 0\n"),
+    ("save a faces f.txt", "ok 54\n"),
+    ("content b", "ok 4\n"),
 ];
 
 /// Asks a new session, over a shelf whose first call fails.
@@ -181,7 +209,8 @@ fn inputs_are_edited_and_asked(rt: HostRuntime) -> Result<(), Fail> {
 
 #[test]
 fn solids_are_cut_and_projected(rt: HostRuntime) -> Result<(), Fail> {
-    answers(&rt, &SECTIONS)
+    answers(&rt, &SECTIONS)?;
+    answers(&rt, &PARTS)
 }
 
 #[test]

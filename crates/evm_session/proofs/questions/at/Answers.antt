@@ -1,4 +1,4 @@
-use Rattle.std.proofs.Common.{◌≡◌, ◌++◌, ◌==◌, List, ℕ, ℤ, true, false, pos, neg_ℤ, ◌-ℤ◌, length, to_z, of_z, w32, sym, ◌∙◌, refl, ap, subst, rules}
+use Rattle.std.proofs.Common.{◌≡◌, ◌++◌, ◌==◌, List, ℕ, true, false, pos, neg_ℤ, ◌-ℤ◌, length, to_z, of_z, w32, sym, ◌∙◌, refl, ap, subst, rules}
 use Rattle.std.specs.List.{list_all}
 use Rattle.std.proofs.lemmas.Bool.Decides.{Decides-eqb}
 use Rattle.evm_cells.specs.Limits.{limit, is_cell_coord}

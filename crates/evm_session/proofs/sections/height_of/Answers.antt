@@ -1,7 +1,6 @@
-use Rattle.std.proofs.Common.{◌≡◌, Bool, true, false, ℤ, pos, neg_ℤ, ◌-ℤ◌, to_z, of_z, w32, ◌∙◌, subst, rules}
+use Rattle.std.proofs.Common.{◌≡◌, Bool, true, false, ℤ, pos, neg_ℤ, ◌-ℤ◌, to_z, of_z, w32, subst, rules}
 use Rattle.std.specs.Prelude.{MatchOption}
 use Rattle.evm_cells.specs.Limits.{limit}
-use Rattle.evm_script.specs.Coordinates.{is_between}
 use Rattle.evm_session.proofs.Slicing.{between_heights}
 use Rattle.evm_session.proofs.sections.height_of.Goals as goal
 
