@@ -2,3 +2,4 @@ pub mod UnionRows
 pub mod NumberRuns
 pub mod RowSteps
 pub mod FileSteps
+pub mod Cuts

@@ -1,2 +1,3 @@
 pub mod BoxRows
 pub mod Reading
+pub mod Cuts

@@ -3,8 +3,10 @@
 //! `evm_formats` says what the bytes of a box file state.
 #![tactic(auto)]
 
+mod cut;
 mod file;
 mod line;
+mod plane;
 #[cfg(test)]
 mod tests;
 mod union;

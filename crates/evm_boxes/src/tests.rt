@@ -5,6 +5,15 @@ use evm_rows::{NoMemory, Solid};
 use std::alloc::Global;
 use std::test::Fail;
 
+// Squares of side 2 at each place of a grid: so many that a plane cuts them.
+const SQUARES: &[u8] = b"evm-boxes 1 2\n\
+    0 0 2 2\n0 1 2 3\n0 2 2 4\n0 3 2 5\n0 4 2 6\n0 5 2 7\n\
+    1 0 3 2\n1 1 3 3\n1 2 3 4\n1 3 3 5\n1 4 3 6\n1 5 3 7\n\
+    2 0 4 2\n2 1 4 3\n2 2 4 4\n2 3 4 5\n2 4 4 6\n2 5 4 7\n\
+    3 0 5 2\n3 1 5 3\n3 2 5 4\n3 3 5 5\n3 4 5 6\n3 5 5 7\n\
+    4 0 6 2\n4 1 6 3\n4 2 6 4\n4 3 6 5\n4 4 6 6\n4 5 6 7\n\
+    5 0 7 2\n5 1 7 3\n5 2 7 4\n5 3 7 5\n5 4 7 6\n5 5 7 7\n";
+
 // Two squares that overlap.
 fn two_squares(alloc: Global) -> Result<Solid, NoMemory> {
     let boxes = [
@@ -25,7 +34,7 @@ fn two_squares(alloc: Global) -> Result<Solid, NoMemory> {
 #[test]
 fn files_state_unions(rt: HostRuntime) -> Result<(), Fail> {
     let alloc = rt.alloc();
-    let table: [(&[u8], &[i32]); 2] = [
+    let table: [(&[u8], &[i32]); 3] = [
         (
             b"evm-boxes 1 2\r\n# two squares\n\n0 0 2 2\n\t1 1  0000000003 3 \r\n",
             &[0, 0, 0, 2, 1, 2, 1, 3, 2, 0, 2, 1, 3, 1, 3, 3],
@@ -34,6 +43,7 @@ fn files_state_unions(rt: HostRuntime) -> Result<(), Fail> {
             b"evm-boxes 1 2\n0 0 1 3\n1 0 2 1\n1 2 2 3\n2 0 3 3\n",
             &[0, 0, 0, 3, 1, 1, 1, 2, 2, 1, 2, 2, 3, 0, 3, 3],
         ),
+        (SQUARES, &[0, 0, 0, 7, 7, 0, 7, 7]),
     ];
     for (text, corners) in table {
         let solid = read_boxes(alloc, 2, text)?;

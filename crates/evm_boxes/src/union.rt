@@ -7,17 +7,24 @@ ghost use Rattle.evm_cells.specs.Unions.{union_of};
 ghost use Rattle.evm_boxes.specs.BoxRows.{ends_of, IsBoxRow};
 
 use super::BoxRow;
+use super::cut::{Sides, divide};
 use evm_boolean::{Op2, combine};
-use evm_rows::{BoxError, NoMemory, Solid};
+use evm_rows::{BoxError, NoMemory, Solid, xor};
 use std::alloc::Global;
+
+/// How many boxes are joined without a cut.
+const FEW: usize = 32;
 
 /// The union of boxes of dimension `dim`, each with room on each axis and within the limits. Without boxes it is empty.
 ///
-/// The boxes are sorted by their lower corners, divided into halves, and the unions of the halves united, and so on. So a
-/// box takes part in as many unions as the number of boxes can be halved, each with its neighbours.
+/// Where there are many boxes, a plane cuts them into those below it and those above it, each side is joined by itself,
+/// and the answers are put together by one merge, since the two sides share no cell. A plane is taken if it leaves to each
+/// side at most seven of eight boxes, so this goes no deeper than a logarithm of their number. Few boxes are sorted by their
+/// lower corners and united by halves.
 ///
-/// It takes memory for a copy of the boxes, 56 bytes each; for one finished union for each halving, which waits for that
-/// of the other half; and for what the union of two solids takes. The one error is want of memory.
+/// It takes memory for the boxes of the sides that wait, 56 bytes each: commonly about two times those given, and never
+/// more than seven times, in lists that grow by doubling; for a finished union of each side that waits for the other; and
+/// for what the union of two solids takes. The one error is want of memory.
 pub fn join(alloc: Global, dim: usize, boxes: &[BoxRow]) -> Result<Solid, NoMemory>
     requires low { 0 < dim }
     requires high { dim ≤ 6 }
@@ -33,13 +40,50 @@ pub fn join(alloc: Global, dim: usize, boxes: &[BoxRow]) -> Result<Solid, NoMemo
 }
 
 /// The union of boxes that it may put into another order.
-pub(crate) fn join_rows(alloc: Global, dim: usize, mut rows: Vec<BoxRow>) -> Result<Solid, NoMemory>
+pub(crate) fn join_rows(alloc: Global, dim: usize, rows: Vec<BoxRow>) -> Result<Solid, NoMemory>
     requires low { 0 < dim }
     requires high { dim ≤ 6 }
     requires boxes { All (IsBoxRow dim) rows.items }
     ensures dim { IfOk result (λ s. s.dim ≡ dim) }
     ensures rows { IfOk result (λ s. s.rows ≡ evm dim (union_of dim (map ends_of rows.items))) }
     ensures cells { IfOk result (λ s. cells s.dim s.rows ≡ union_of dim (map ends_of rows.items)) }
+    ensures none { length rows.items ≡ 0 → IsOk result }
+{
+    let all = join_parts(alloc, dim, rows)?;
+    Ok(all)
+}
+
+/// The union of boxes, cut in space while they are many.
+fn join_parts(alloc: Global, dim: usize, rows: Vec<BoxRow>) -> Result<Solid, NoMemory>
+    requires low { 0 < dim }
+    requires high { dim ≤ 6 }
+    requires boxes { All (IsBoxRow dim) rows.items }
+    ensures dim { IfOk result (λ s. s.dim ≡ dim) }
+    ensures rows { IfOk result (λ s. s.rows ≡ evm dim (union_of dim (map ends_of rows.items))) }
+    ensures none { length rows.items ≡ 0 → IsOk result }
+{
+    if rows.len() <= FEW {
+        return join_few(alloc, dim, rows);
+    }
+    match divide(alloc, dim, rows.as_slice())? {
+        None => join_few(alloc, dim, rows),
+        Some(Sides { low, high }) => {
+            drop(rows);
+            let below = join_parts(alloc, dim, low)?;
+            let above = join_parts(alloc, dim, high)?;
+            let both = xor(alloc, below.rows(), above.rows())?;
+            Ok(both)
+        }
+    }
+}
+
+/// The union of boxes, put in order and then taken by halves.
+fn join_few(alloc: Global, dim: usize, mut rows: Vec<BoxRow>) -> Result<Solid, NoMemory>
+    requires low { 0 < dim }
+    requires high { dim ≤ 6 }
+    requires boxes { All (IsBoxRow dim) rows.items }
+    ensures dim { IfOk result (λ s. s.dim ≡ dim) }
+    ensures rows { IfOk result (λ s. s.rows ≡ evm dim (union_of dim (map ends_of rows.items))) }
     ensures none { length rows.items ≡ 0 → IsOk result }
 {
     rows.sort_unstable();

@@ -1,4 +1,4 @@
-use Rattle.std.proofs.Common.{◌≡◌, ℕ, zero, suc, ◌<◌, List, [], ◌∷◌, get_or, pos, refl, arith}
+use Rattle.std.proofs.Common.{ℕ, zero, suc, ◌<◌, [], ◌∷◌, get_or, pos, refl, arith}
 use Rattle.evm_cells.specs.Places.{each}
 use Rattle.evm_cells.specs.Limits.{limit, is_point_coord, is_point}
 use Rattle.evm_boxes.specs.BoxRows.{IsBoxRow}

@@ -1,0 +1,111 @@
+//! A plane that divides boxes well.
+
+ghost use Rattle.std.specs.Prelude.{◌<◌, ◌≤◌, IfOk, IfSome};
+
+use super::BoxRow;
+use evm_rows::NoMemory;
+use std::alloc::Global;
+
+/// About how many boxes are looked at for a plane.
+const SAMPLE: usize = 256;
+
+/// A plane across an axis.
+#[derive(Clone, Copy)]
+pub(crate) struct Plane {
+    /// The axis, counted from 0.
+    pub axis: usize,
+    /// The height on this axis.
+    pub at: i32,
+}
+
+/// The plane, among one for each axis, of which the side with more boxes has the fewest, if that are fewer than all.
+///
+/// Any plane is right; this one keeps the work small.
+pub(crate) fn plane_of(
+    alloc: Global,
+    dim: usize,
+    rows: &[BoxRow],
+) -> Result<Option<Plane>, NoMemory>
+    requires high { dim ≤ 6 }
+    ensures { IfOk result (λ found. IfSome found (λ plane. plane.axis < dim)) }
+{
+    let mut best = None;
+    let mut least = rows.len();
+    for axis in 0..dim {
+        let Some(at) = median(alloc, axis, rows)? else {
+            continue;
+        };
+        let plane = Plane { axis, at };
+        let most = larger_side(plane, rows);
+        if most < least {
+            least = most;
+            best = Some(plane);
+        }
+    }
+    Ok(best)
+}
+
+/// How many boxes come to that side of a plane that has more.
+fn larger_side(plane: Plane, rows: &[BoxRow]) -> usize
+    requires axis { plane.axis < 6 }
+{
+    let low = rows
+        .iter()
+        .filter(|row| row.lo[plane.axis] < plane.at)
+        .count();
+    let high = rows
+        .iter()
+        .filter(|row| plane.at < row.hi[plane.axis])
+        .count();
+    low.max(high)
+}
+
+/// A height of an axis with about as many ends of boxes below it as above, strictly between the least and the greatest end.
+fn median(alloc: Global, axis: usize, rows: &[BoxRow]) -> Result<Option<i32>, NoMemory>
+    requires axis { axis < 6 }
+{
+    let mut ends = inner_ends(alloc, axis, rows)?;
+    ends.sort_unstable();
+    let middle = ends.len() / 2;
+    Ok(ends.as_slice().get(middle).copied())
+}
+
+/// Some ends of boxes on an axis, neither the least nor the greatest.
+fn inner_ends(alloc: Global, axis: usize, rows: &[BoxRow]) -> Result<Vec<i32>, NoMemory>
+    requires axis { axis < 6 }
+{
+    let (first, last) = hull(axis, rows);
+    let step = rows.len() / SAMPLE + 1;
+    let mut ends = Vec::new(alloc);
+    for (place, row) in rows.iter().enumerate() {
+        if place % step == 0 {
+            add_between(first, row.lo[axis], last, &mut ends)?;
+            add_between(first, row.hi[axis], last, &mut ends)?;
+        }
+    }
+    Ok(ends)
+}
+
+/// Adds an end that is strictly between two numbers.
+fn add_between(first: i32, end: i32, last: i32, ends: &mut Vec<i32>) -> Result<(), NoMemory> {
+    if end <= first || last <= end {
+        return Ok(());
+    }
+    match ends.push(end) {
+        Ok(()) => Ok(()),
+        Err(_) => Err(NoMemory),
+    }
+}
+
+/// The least and the greatest end of boxes on an axis.
+fn hull(axis: usize, rows: &[BoxRow]) -> (i32, i32)
+    requires axis { axis < 6 }
+{
+    let mut first = i32::MAX;
+    let mut last = i32::MIN;
+    for row in rows {
+        first = first.min(row.lo[axis]);
+        last = last.max(row.hi[axis]);
+    }
+    (first, last)
+}
