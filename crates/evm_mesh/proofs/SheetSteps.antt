@@ -1,26 +1,20 @@
 -- Lists that grow by a sheet, or by a box of one.
-use Rattle.std.proofs.Common.{◌≡◌, ℕ, zero, suc, ◌+◌, ◌<◌, true, List, [], ◌∷◌, ◌++◌, map, length, take, get_or, not, ℤ, int_lt, int_eq, refl, sym, ap, ap₂, subst, ◌∙◌, arith, append-nil, append_assoc}
-use Rattle.std.specs.List.{All, flat_map, list_all, range_with_len}
+use Rattle.std.proofs.Common.{◌≡◌, ℕ, zero, suc, ◌+◌, ◌<◌, List, [], ◌∷◌, ◌++◌, map, length, take, get_or, ℤ, refl, sym, ap, ap₂, subst, ◌∙◌, arith, append-nil, append_assoc}
+use Rattle.std.specs.List.{All, flat_map, range_with_len}
 use Rattle.std.proofs.lemmas.List.{take_more, flat_map_more}
 use Rattle.std.proofs.lemmas.Grind.{flat_map-append}
-use Rattle.std.proofs.lemmas.List.Elements.{All-push, All-same, All-filter}
-use Rattle.std.proofs.lemmas.List.Sums.{AllPass-from_list_all}
+use Rattle.std.proofs.lemmas.List.Elements.{All-push, All-same}
 use Rattle.evm_text.specs.Lines.{text_of}
-use Rattle.evm_cells.specs.Places.{is_empty}
-use Rattle.evm_cells.specs.Limits.{is_point_coord, point_coords}
-use Rattle.evm_cells.specs.Sections.{cuts, couplet}
 use Rattle.evm_cells.specs.Boxes.{IsBox}
 use Rattle.evm_cells.specs.Unions.{Ends}
-use Rattle.evm_cells.proofs.Lists.{all_members}
-use Rattle.evm_cells.proofs.Coords.{strict_ints, any-point_coords}
 use Rattle.evm_cells.proofs.Universe.{cell_set-cells}
 use Rattle.evm_rows.specs.Rows.{Vertices, cells_of}
 use Rattle.evm_partition.specs.Partition.{partition}
 use Rattle.evm_partition.specs.BoxLists.{partition_of}
 use Rattle.evm_partition.proofs.Within.{boxes_have_room}
-use Rattle.evm_formats.specs.FaceText.{Face, Side, Falling, Rising, face_cells, boxes_of_face, faces_at}
+use Rattle.evm_formats.specs.FaceText.{Face, Side}
 use Rattle.evm_mesh.specs.declared.sheets.Sheet.{Sheet}
-use Rattle.evm_mesh.specs.Sheets.{IsSheet, side_of, faces_of_sheet, faces_in}
+use Rattle.evm_mesh.specs.Sheets.{IsSheet, labelled, side_of, faces_of_sheet, faces_in}
 
 -- one element more
 pub part_more : {A B : Type 0} (f : A → List B) (out : List B) (xs : List A) (i : ℕ) (d : A) → i < length xs → out ++ flat_map f (take (i + 1) xs) ≡ (out ++ flat_map f (take i xs)) ++ f (get_or xs i d)
@@ -78,9 +72,8 @@ sheet_added : (xs : List Sheet) (s : Sheet) → faces_in (xs ++ s ∷ []) ≡ fa
 sheet_added xs s = flat_map-append faces_of_sheet xs (s ∷ []) ∙ ap (λ t. faces_in xs ++ t) (append-nil (faces_of_sheet s))
 
 -- what falls at a height and then what rises there
-pub cut_added : (n i : ℕ) (h : ℤ) (S : List (List ℤ)) (xs ys zs : List Sheet) (f r : Sheet) → ys ≡ xs ++ f ∷ [] → zs ≡ ys ++ r ∷ []
-    → faces_of_sheet f ≡ boxes_of_face n i h Falling S → faces_of_sheet r ≡ boxes_of_face n i h Rising S → faces_in zs ≡ faces_in xs ++ faces_at n S i h
-cut_added n i h S xs ys zs f r a b e g =
+pub cut_added : (xs ys zs : List Sheet) (f r : Sheet) (falls rises : List Face) → ys ≡ xs ++ f ∷ [] → zs ≡ ys ++ r ∷ [] → faces_of_sheet f ≡ falls → faces_of_sheet r ≡ rises → faces_in zs ≡ faces_in xs ++ (falls ++ rises)
+cut_added xs ys zs f r falls rises a b e g =
     ap faces_in b ∙ sheet_added ys r ∙ ap (λ t. t ++ faces_of_sheet r) (ap faces_in a ∙ sheet_added xs f)
     ∙ append_assoc (faces_in xs) (faces_of_sheet f) (faces_of_sheet r) ∙ ap₂ (λ s t. faces_in xs ++ (s ++ t)) e g
 
@@ -101,15 +94,6 @@ pub axes_more : (f : ℕ → List Face) (n : ℕ) → flat_map f (range_with_len
 axes_more f n =
     ap (λ k. flat_map f (range_with_len 0 k)) (let e : n + 1 ≡ suc n = omega arith in e) ∙ axes_on f 0 n ∙ ap (λ k. flat_map f (range_with_len 0 n) ++ f k) (let e : 0 + n ≡ n = omega arith in e)
 
--- the cuts are coordinates of points
-pub cuts_in_range : (m n i : ℕ) (S : List (List ℤ)) → n + 1 ≡ m → All (λ h. is_point_coord m h ≡ true) (cuts n i S)
-unfolding cuts
-cuts_in_range m n i S e =
-    let same : suc n ≡ m = omega arith in
-    let all : list_all (is_point_coord (suc n)) (point_coords (suc n)) ≡ true = all_members int_eq int_lt strict_ints (is_point_coord (suc n)) (point_coords (suc n)) (λ x t. sym (any-point_coords (suc n) x) ∙ t) in
-    All-filter (λ h. not (is_empty (couplet n i h S))) (λ h. is_point_coord m h ≡ true) (point_coords (suc n))
-    (λ k d l. ap (λ j. is_point_coord j (get_or (point_coords (suc n)) k d)) (sym same) ∙ AllPass-from_list_all (is_point_coord (suc n)) (point_coords (suc n)) all k d l)
-
 -- ---- a sheet, from the partition of what falls or rises
 
 -- its boxes have room
@@ -119,8 +103,8 @@ has_room v n bs e f =
     subst (λ (j : ℕ). All (λ b. IsBox j b.lo b.hi) bs) e all
 
 -- and are faces
-pub sheet_is : (s : Sheet) (n i : ℕ) (h : ℤ) (side : Side) (S : List (List ℤ)) (v : Vertices) → s.axis ≡ i → s.at ≡ h → side_of s.side ≡ side → s.boxes.boxes ≡ partition_of v → v.dim ≡ n
-    → cells_of v ≡ face_cells n i h side S → faces_of_sheet s ≡ boxes_of_face n i h side S
-sheet_is s n i h side S v a b c d e f =
+pub sheet_is : (s : Sheet) (n i : ℕ) (h : ℤ) (side : Side) (T : List (List ℤ)) (v : Vertices) → s.axis ≡ i → s.at ≡ h → side_of s.side ≡ side → s.boxes.boxes ≡ partition_of v → v.dim ≡ n → cells_of v ≡ T
+    → faces_of_sheet s ≡ labelled n i h side T
+sheet_is s n i h side T v a b c d e f =
     let faces : ℕ → ℤ → Side → List Ends → List Face = λ i h side bs. map (λ b. record { axis = i; at = h; side = side; ends = b }) bs in
     ap₂ (λ i h. faces i h (side_of s.side) s.boxes.boxes) a b ∙ ap₂ (λ side bs. faces i h side bs) c (d ∙ ap₂ partition e f)

@@ -18,7 +18,9 @@ use std::io::Write;
 /// and then of the upper one on the other axes, in plain decimal, with one space between each two. Each line is ended by a line
 /// feed.
 ///
-/// The one error is want of memory.
+/// For each axis the rows are sorted and walked over once, and each cut takes as long as the sections below and above it, so many
+/// cuts of small sections are quick. It takes memory for the boxes of all faces, for the text, and for the rows a few times. The
+/// one error is want of memory.
 pub fn write_faces(alloc: Global, a: &Solid) -> Result<Vec<u8>, NoMemory>
     requires { 2 ≤ a.now.dim }
     ensures { IfOk result (λ v. v.items ≡ face_file a.now.dim (cells_of a.now)) }

@@ -1,7 +1,8 @@
 //! Writes the faces of solids: as faces files, version 1, and, in space, as meshes in Wavefront OBJ.
 //!
-//! `evm_faces` says what rises and what falls at a cut, `evm_partition` which boxes that has, and `evm_formats` what the texts of
-//! both formats are.
+//! `evm_sections` walks over the couplets of a solid, `evm_partition` says which boxes what falls and what rises there has, and
+//! `evm_formats` what the texts of both formats are. A face is a box of these; a mesh gives its corners in an order, so that it is
+//! seen which side is outside.
 #![tactic(auto)]
 
 mod faces;

@@ -17,6 +17,9 @@ use std::alloc::Global;
 /// 1. The corners of a face run counterclockwise where it is seen from outside the solid, in a right-handed system. Each line is
 /// ended by a line feed; an empty solid has no line.
 ///
+/// The boxes of all faces are kept once, as in `write_faces`. Their corners, four a face, are sorted, and each of those that is left
+/// is a vertex; a corner finds its number among them by a binary search. Where faces of different sizes meet, a vertex may lie
+/// inside an edge of another face. It takes memory for the boxes, for the corners and for the text, and for the rows a few times.
 /// The one error is want of memory.
 pub fn write_obj(alloc: Global, a: &Solid) -> Result<Vec<u8>, NoMemory>
     requires { a.now.dim ≡ 3 }
