@@ -8,6 +8,7 @@ pub mod Lengths
 pub mod ImageSets
 pub mod BoxLines
 pub mod BoxLaws
+pub mod BoxTexts
 pub mod PgmRefusals
 pub mod HeaderLaws
 pub mod Joins

@@ -10,6 +10,7 @@
 //! boxes. The format is this project's own.
 
 ghost use Rattle.evm_formats.specs.BoxLaws.{BoxesStateUnion, PiecesStateUnion, BlanksStateNothing, FirstWrongLine, TwoRooms};
+ghost use Rattle.evm_formats.specs.BoxText.{BoxFilesAreReadAgain};
 
 use thiserror::Error;
 
@@ -40,11 +41,13 @@ pub enum BoxFileError {
 /// - `pieces`: a file of two pieces states the union of both.
 /// - `blanks`: blank lines and comments state nothing.
 /// - `wrong`: the first line that is wrong refuses the file, with its number.
+/// - `again`: a box file that was written for some cells states these cells.
 /// - `worked`: two rooms that overlap.
 pub fn box_files_state_unions()
     ensures boxes { BoxesStateUnion }
     ensures pieces { PiecesStateUnion }
     ensures blanks { BlanksStateNothing }
     ensures wrong { FirstWrongLine }
+    ensures again { BoxFilesAreReadAgain }
     ensures worked { TwoRooms }
 {}

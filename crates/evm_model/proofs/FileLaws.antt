@@ -19,7 +19,7 @@ use Rattle.evm_formats.specs.Pgm.{pgm_cells}
 use Rattle.evm_formats.specs.Y4m.{y4m_cells}
 use Rattle.evm_formats.proofs.ImageSets.{cell_set-pgm, cell_set-y4m}
 use Rattle.evm_text.specs.Lines.{lines}
-use Rattle.evm_box_writer.proofs.Lines.{read_again}
+use Rattle.evm_formats.proofs.BoxTexts.{read_again}
 use Rattle.evm_script.specs.declared.files.LoadForm.{LoadForm}
 use Rattle.evm_script.specs.declared.files.LoadForm.TheVariants as forms
 use Rattle.evm_script.specs.declared.files.SaveForm.TheVariants as saves

@@ -1,5 +1,5 @@
 -- Values and reaching in a scene whose names stand in an order, operands before those that read them.
-use Rattle.std.proofs.Common.{◌≡◌, ℕ, zero, suc, ◌+◌, ◌≤◌, Bool, true, false, ◌||◌, List, [], ◌∷◌, length, Option, None, Some, refl, sym, ap, ◌∙◌, subst, bytes_eq, is_some, arith}
+use Rattle.std.proofs.Common.{◌≡◌, ℕ, zero, suc, ◌+◌, ◌≤◌, Bool, true, false, ◌||◌, List, [], ◌∷◌, length, Option, None, Some, refl, sym, ap, ◌∙◌, subst, bytes_eq, arith}
 use Rattle.std.specs.List.{list_any}
 use Rattle.evm_script.specs.declared.formula.Formula.{Formula}
 use Rattle.evm_model.specs.Figures.{Figure, nothing}
@@ -7,7 +7,7 @@ use Rattle.evm_model.specs.Formulas.{Parts, Both, Block, Shaped, boolean_of, sha
 use Rattle.evm_model.specs.Orders.{is_among, AllSeen, Ordered}
 use Rattle.evm_model.specs.Scene.{What, Given, Made, Entry, Scene, entry_of, stands, operands, what_operands, entry_operands, operands_of, formula_value, formula_stays, what_value, what_stays, entry_value, value_within, value, reaches_within, reaches}
 use Rattle.evm_model.proofs.Lookups.{none_stands}
-use Rattle.evm_model.proofs.Names.{by_test, by_among, not_both, or_left, or_right, among_here, among_later, among_none, apart_back, any_among, none_passes}
+use Rattle.evm_model.proofs.Names.{by_test, by_among, or_left, or_right, among_here, among_later, among_none, apart_back, any_among, none_passes}
 
 -- two functions of names, each by levels of operands, agree on an ordered list at as many levels as names were passed
 module _ {V : Type 0} (reads : List ℕ → List (List ℕ)) (step : List ℕ → (List ℕ → V) → V) (w v : ℕ → List ℕ → V)

@@ -1,12 +1,12 @@
 -- Edits keep the entries of other names, and the values of names that do not reach the edited one.
-use Rattle.std.proofs.Common.{◌≡◌, ℕ, zero, suc, ◌+◌, ◌≤◌, Bool, true, false, not, cond, ◌&&◌, ◌||◌, List, [], ◌∷◌, length, filter, Option, Some, None, refl, sym, ap, ◌∙◌, subst, bytes_eq, arith}
+use Rattle.std.proofs.Common.{◌≡◌, ℕ, ◌+◌, ◌≤◌, Bool, true, false, not, cond, ◌&&◌, ◌||◌, List, [], ◌∷◌, length, filter, Option, Some, refl, sym, ap, ◌∙◌, subst, bytes_eq, arith}
 use Rattle.std.specs.Prelude.{nat_abs}
 use Rattle.std.specs.List.{list_any}
 use Rattle.std.proofs.lemmas.Bool.{false≢true}
 use Rattle.std.proofs.lemmas.List.Sums.{length-filter, count_by-le-length}
 use Rattle.evm_cells.proofs.Xor.{and_first}
 use Rattle.evm_script.specs.declared.formula.Formula.{Formula}
-use Rattle.evm_model.specs.Figures.{Figure, nothing, box_at, xor_of, or_of, sub_of}
+use Rattle.evm_model.specs.Figures.{Figure, box_at, xor_of, or_of, sub_of}
 use Rattle.evm_model.specs.Orders.{is_among, Ordered}
 use Rattle.evm_model.specs.Scene.{Scene, Entry, What, Given, Made, entry_of, stands, dim_of, entry_operands, operands_of, value, value_within, entry_value, what_stays, reaches, with_entry, without_entry, with_figure, with_new, with_formula, without_name, formula_dim, names_differ, all_stay, IsWell, IsOrderOf, given_entry, made_entry}
 use Rattle.evm_model.specs.Edits.{Edit, Input, Toggle, Add, Cut, Replace, Def, Drop, name_of, after}

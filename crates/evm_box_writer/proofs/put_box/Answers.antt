@@ -1,4 +1,4 @@
-use Rattle.std.proofs.Common.{◌≡◌, ◌++◌, ◌∷◌, ap, ◌∙◌, get_or, drop, pos, rules, w32}
+use Rattle.std.proofs.Common.{◌≡◌, ◌++◌, ap, ◌∙◌, get_or, drop, pos, rules, w32}
 use mir.Val.{SFits}
 use Rattle.std.specs.Fmt.{signed_decimal}
 use Rattle.evm_text.specs.Spaced.{behind_spaces}

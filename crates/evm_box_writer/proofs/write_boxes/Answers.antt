@@ -3,7 +3,8 @@ use Rattle.evm_cells.proofs.Universe.{cell_set-cells}
 use Rattle.evm_rows.specs.Rows.{Vertices, cells_of}
 use Rattle.evm_formats.specs.BoxFile.{file_cells}
 use Rattle.evm_partition.specs.BoxLists.{partition_of}
-use Rattle.evm_box_writer.proofs.Lines.{whole_text, read_again}
+use Rattle.evm_box_writer.proofs.Lines.{whole_text}
+use Rattle.evm_formats.proofs.BoxTexts.{read_again}
 use Rattle.evm_box_writer.proofs.write_boxes.Goals as goal
 
 pub returns-clause-text : goal.returns-clause-text
