@@ -15,3 +15,4 @@ pub mod NestedSlabs
 pub mod Gathered
 pub mod Apart
 pub mod PartLists
+pub mod OnePart

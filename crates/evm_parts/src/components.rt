@@ -1,5 +1,5 @@
 //! The parts of a solid.
-ghost use Rattle.std.specs.Prelude.{◌≡◌, ◌<◌, ◌≤◌, ◌%◌, length, All, IfOk, OnOk};
+ghost use Rattle.std.specs.Prelude.{◌≡◌, ◌↔◌, ◌<◌, ◌≤◌, ◌%◌, [], ◌∷◌, length, All, IfOk, IsTrue, OnOk};
 ghost use Rattle.evm_rows.specs.View.{vertices_of};
 ghost use Rattle.evm_parts.specs.PartLists.{parts_of};
 ghost use Rattle.evm_parts.specs.PartRows.{parts_at, AreApart, IsPartAppended};
@@ -9,7 +9,7 @@ use crate::lists::Parts;
 use crate::neighbours::links;
 use crate::rows::rows_by_label;
 use evm_partition::{Boxes, split};
-use evm_rows::{NoMemory, Rows};
+use evm_rows::{NoMemory, Rows, own};
 use evm_shapes::reduced;
 use std::alloc::{AllocError, Global};
 
@@ -57,18 +57,42 @@ fn unions(alloc: Global, boxes: &Boxes, labels: &[usize]) -> Result<Parts, NoMem
     Ok(Parts::of_flat(dim, flat, ends))
 }
 
+// Whether there are boxes, all with the label 0.
+fn are_one(labels: &[usize]) -> bool
+    ensures { IsTrue result ↔ ((0 < length labels.now) × All (λ label. label ≡ 0) labels.now) }
+{
+    !labels.is_empty() && labels.iter().all(|label| *label == 0)
+}
+
+// The one part of a solid that hangs together: the solid.
+fn whole(alloc: Global, a: Rows<'_>) -> Result<Parts, NoMemory>
+    ensures dim { IfOk result (λ p. p.dim ≡ (vertices_of a.entry).dim) }
+    ensures parts { IfOk result (λ p. p.parts ≡ (vertices_of a.entry).rows ∷ []) }
+{
+    let dim = a.dim();
+    let rows = own(alloc, a)?.into_flat();
+    let mut ends = Vec::with_capacity(alloc, 1)?;
+    ends.push(rows.len())?;
+    Ok(Parts::of_flat(dim, rows, ends))
+}
+
 /// The parts of a solid: the largest sets of its cells that hang together by faces of cells, in the order of their least cells. Edges
 /// and corners join nothing. The empty solid has no part.
 ///
 /// The solid is split into the boxes of its stated partition; neighbours among them are linked, and each box gets the least of those
-/// that hang together with it as its label. Each part is a list of rows of as many coordinates as the view has left. Memory is taken for
-/// the boxes, their links, a list a box, their corners, and the answer. The one error is want of memory.
+/// that hang together with it as its label. A solid of one part is copied. Each part is a list of rows of as many coordinates as the
+/// view has left. Memory is taken for the boxes, their links, a list a box, their corners, and the answer. The one error is want of
+/// memory.
 pub fn parts(alloc: Global, a: Rows<'_>) -> Result<Parts, NoMemory>
     ensures dim { IfOk result (λ p. p.dim ≡ (vertices_of a.entry).dim) }
     ensures parts { IfOk result (λ p. p.parts ≡ parts_of (vertices_of a.entry)) }
 {
     let boxes = split(alloc, a)?;
     let found = links(alloc, &boxes)?;
-    let roots = labels(alloc, &boxes, found.as_slice())?;
-    unions(alloc, &boxes, roots.as_slice())
+    let lowest = labels(alloc, &boxes, found.as_slice())?;
+    let roots = lowest.as_slice();
+    if are_one(roots) {
+        return whole(alloc, a);
+    }
+    unions(alloc, &boxes, roots)
 }

@@ -10,6 +10,7 @@ use Rattle.evm_parts.specs.Links.{AreNested}
 use Rattle.evm_parts.specs.PartRows.{parts_at, AreApart}
 use Rattle.evm_parts.proofs.Apart.{partition_apart}
 use Rattle.evm_parts.proofs.NestedSlabs.{nested_partition}
+use Rattle.evm_parts.proofs.OnePart.{one_part}
 use Rattle.evm_parts.proofs.PartLists.{labels_within, all_parts}
 use Rattle.evm_parts.proofs.components.parts.Goals as goal
 
@@ -27,8 +28,8 @@ links-requires c =
 
 pub unions-requires-clause-within : goal.unions-requires-clause-within
 unions-requires-clause-within c =
-    subst (λ (ls : List ℕ). All (λ label. label < length ls) ls) (sym c.as_slice-2.ensures.value)
-    (labels_within c.in_ok-boxes.boxes.boxes c.in_ok-roots.roots.items c.in_ok-roots.ensures)
+    subst (λ (ls : List ℕ). All (λ label. label < length ls) ls) (sym c.as_slice-roots.ensures.value)
+    (labels_within c.in_ok-boxes.boxes.boxes c.in_ok-lowest.lowest.items c.in_ok-lowest.ensures)
 
 pub unions-requires-clause-apart : goal.unions-requires-clause-apart
 unions-requires-clause-apart c =
@@ -38,16 +39,26 @@ unions-requires-clause-apart c =
     let S : List (List ℤ) = cells n V in
     of_partition AreApart n c.in_ok-boxes.boxes.dim (partition n S) c.in_ok-boxes.boxes.boxes c.in_ok-boxes.ensures.dim c.in_ok-boxes.ensures.boxes (partition_apart n S (cell_set-cells n V))
 
+pub returns-then-are_one-clause-parts : goal.returns-then-are_one-clause-parts
+returns-then-are_one-clause-parts c =
+    let a = c.args.a in
+    let n : ℕ = a.width - a.skip in
+    let V : List (List ℤ) = rows_of a.flat.now a.width a.skip in
+    let labels = c.in_ok-lowest.lowest.items in
+    let are : AreLabels (partition n (cells n V)) labels = subst (λ (bs : List Ends). AreLabels bs labels) c.in_ok-boxes.ensures.boxes c.in_ok-lowest.ensures in
+    let h = subst (λ (ls : List ℕ). (0 < length ls) × All (λ label. label ≡ 0) ls) c.as_slice-roots.ensures.value (c.are_one.ensures.0 c.if-are_one.true) in
+    subst (λ Vs. IfOk c.whole.result (λ p. p.parts ≡ Vs)) (sym (one_part n V labels a.vertices are h.0 h.1)) c.whole.ensures.parts
+
 pub returns-clause-parts : goal.returns-clause-parts
 returns-clause-parts c =
     let a = c.args.a in
     let n : ℕ = a.width - a.skip in
     let V : List (List ℤ) = rows_of a.flat.now a.width a.skip in
     let S : List (List ℤ) = cells n V in
-    let labels = c.in_ok-roots.roots.items in
-    let are : AreLabels (partition n S) labels = subst (λ (bs : List Ends). AreLabels bs labels) c.in_ok-boxes.ensures.boxes c.in_ok-roots.ensures in
-    let e : parts_at c.in_ok-boxes.boxes.dim c.in_ok-boxes.boxes.boxes c.as_slice-2.result.now ≡ map (evm n) (parts S) =
-    ap (parts_at c.in_ok-boxes.boxes.dim c.in_ok-boxes.boxes.boxes) c.as_slice-2.ensures.value
+    let labels = c.in_ok-lowest.lowest.items in
+    let are : AreLabels (partition n S) labels = subst (λ (bs : List Ends). AreLabels bs labels) c.in_ok-boxes.ensures.boxes c.in_ok-lowest.ensures in
+    let e : parts_at c.in_ok-boxes.boxes.dim c.in_ok-boxes.boxes.boxes c.as_slice-roots.result.now ≡ map (evm n) (parts S) =
+    ap (parts_at c.in_ok-boxes.boxes.dim c.in_ok-boxes.boxes.boxes) c.as_slice-roots.ensures.value
     ∙ ap₂ (λ (k : ℕ) (bs : List Ends). parts_at k bs labels) c.in_ok-boxes.ensures.dim c.in_ok-boxes.ensures.boxes
     ∙ all_parts n S labels (cell_set-cells n V) are in
     subst (λ Vs. IfOk c.unions.result (λ p. p.parts ≡ Vs)) e c.unions.ensures.parts
