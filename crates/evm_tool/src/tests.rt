@@ -82,7 +82,7 @@ fn expect(
 }
 
 /// Scripts of which no line is refused, and the replies: boxes and what is asked of them, then formulas, then shapes.
-const FINE: [(&str, &str); 12] = [
+const FINE: [(&str, &str); 14] = [
     (
         "input a 2 / add a -1073741824 -1073741824 1073741824 1073741824 / content a / boundary a",
         "ok 0 / ok 1 / ok 4611686018427387904 / ok 8589934592",
@@ -96,8 +96,8 @@ const FINE: [(&str, &str); 12] = [
         "ok 0 / ok 1 / ok 1 / ok 2 4 / 0 0 / 0 1 / 2 0 / 2 1 / ok 0",
     ),
     (
-        "input a 2 / add a 0 0 1 1 / add a 1 1 2 2 / show a / boundary a",
-        "ok 0 / ok 1 / ok 1 / ok 2 6 / 0 0 / 0 1 / 1 0 / 1 2 / 2 1 / 2 2 / ok 8",
+        "input a 2 / add a 0 0 1 1 / add a 1 1 2 2 / show a / boundary a / parts a",
+        "ok 0 / ok 1 / ok 1 / ok 2 6 / 0 0 / 0 1 / 1 0 / 1 2 / 2 1 / 2 2 / ok 8 / ok 2 / part 4 1 / 0 0 / 0 1 / 1 0 / 1 1 / part 4 1 / 1 1 / 1 2 / 2 1 / 2 2",
     ),
     (
         "input a 2 / add a 0 0 2 2 / add a 1 1 3 3 / content a / boundary a / point a 2 2 / cut a 2 2 3 3 / point a 2 2 / at a 2 2 / show a",
@@ -128,13 +128,25 @@ const FINE: [(&str, &str); 12] = [
         "input a 3 / add a 0 0 0 1 1 1 / add a 0 0 5 1 1 6 / project a 3 / section a 3 5 / section a 3 1",
         "ok 0 / ok 1 / ok 1 / ok 2 4 / 0 0 / 0 1 / 1 0 / 1 1 / ok 2 4 / 0 0 / 0 1 / 1 0 / 1 1 / ok 2 0",
     ),
+    (
+        "input a 2 / add a 0 0 2 1 / faces a 1 / faces a 2 / add a 2 0 3 1 / cut a 1 0 2 1 / faces a 1 / parts a",
+        "ok 0 / ok 1 / ok 2 / 0 1 0 / 2 0 1 / ok 2 / 0 2 0 / 1 0 2 / ok 1 / ok 1 / ok 4 / 0 1 0 / 1 0 1 / 2 1 0 / 3 0 1 / ok 2 / part 4 1 / 0 0 / 0 1 / 1 0 / 1 1 / part 4 1 / 2 0 / 2 1 / 3 0 / 3 1",
+    ),
+    (
+        "input a 3 / add a 0 0 0 1 1 1 / add a 0 1 1 1 2 2 / add a 1 1 0 2 2 1 / parts a",
+        "ok 0 / ok 1 / ok 1 / ok 1 / ok 3 / part 8 1 / 0 0 0 / 0 0 1 / 0 1 0 / 0 1 1 / 1 0 0 / 1 0 1 / 1 1 0 / 1 1 1 / part 8 1 / 0 1 1 / 0 1 2 / 0 2 1 / 0 2 2 / 1 1 1 / 1 1 2 / 1 2 1 / 1 2 2 / part 8 1 / 1 1 0 / 1 1 1 / 1 2 0 / 1 2 1 / 2 1 0 / 2 1 1 / 2 2 0 / 2 2 1",
+    ),
 ];
 
 /// Scripts of which some lines are refused, and the replies: shapes, then names, numbers and words.
-const REFUSED: [(&str, &str); 10] = [
+const REFUSED: [(&str, &str); 11] = [
     (
         "input b 3 / def l lift b 4 0 1 / add b 268435455 0 0 268435457 1 1 / add b 268435455 0 0 268435456 1 1 / content l",
         "ok 0 / ok 0 / no range / ok 2 / ok 1",
+    ),
+    (
+        "input a 2 / faces a 0 / faces a 3 / faces zz 1 / parts zz / faces a / parts a 1 / faces a 2 / parts a",
+        "ok 0 / no dim / no dim / no name / no name / no syntax / no syntax / ok 0 / ok 0",
     ),
     (
         "input a 2 / add a 0 0 1 1 / def s shift a 1073741823 0 / add a 1 0 2 1 / content a / show s",

@@ -38,14 +38,42 @@ const EQUAL_SOLIDS: [(&str, &str); 3] = [
     ),
 ];
 
+/// The mesh of the cube from 0 0 0 to 1 1 1.
+const CUBE_MESH: &[u8] =
+    b"v 0 0 0\nv 0 0 1\nv 0 1 0\nv 0 1 1\nv 1 0 0\nv 1 0 1\nv 1 1 0\nv 1 1 1\nf 1 2 4 3\nf 5 7 8 6\nf 1 5 6 2\nf 3 4 8 7\nf 1 3 7 5\nf 2 6 8 4\n";
+
+/// Scripts that save the file `f` in each form, the replies, and its bytes.
+const SAVED: [(&str, &str, &[u8]); 4] = [
+    (
+        "input a 2 / save a evm f / toggle a 0 0 2 3 / save a evm f / show a",
+        "ok 0 / ok 16 / ok 1 / ok 48 / ok 2 4 / 0 0 / 0 3 / 2 0 / 2 3",
+        BOX_FILE,
+    ),
+    (
+        "input r 2 / add r 0 0 3 3 / cut r 1 1 2 2 / save r boxes f / load r boxes f",
+        "ok 0 / ok 1 / ok 1 / ok 46 / ok 0",
+        b"evm-boxes 1 2\n0 0 1 3\n1 0 2 1\n1 2 2 3\n2 0 3 3\n",
+    ),
+    (
+        "input a 2 / add a 0 0 2 1 / save a faces f",
+        "ok 0 / ok 1 / ok 54",
+        b"evm-faces 1 2\n1 0 r 0 1\n1 2 f 0 1\n2 0 r 0 2\n2 1 f 0 2\n",
+    ),
+    (
+        "input u 3 / add u 0 0 0 1 1 1 / save u obj f",
+        "ok 0 / ok 1 / ok 124",
+        CUBE_MESH,
+    ),
+];
+
 #[test]
 fn a_solid_is_saved_in_its_one_file(rt: HostRuntime) -> Result<(), Fail> {
     let alloc = rt.alloc();
-    let mut shelf = no_files(alloc);
-    let script = "input a 2 / save a evm f / toggle a 0 0 2 3 / save a evm f / show a";
-    let replies = "ok 0 / ok 16 / ok 1 / ok 48 / ok 2 4 / 0 0 / 0 3 / 2 0 / 2 3";
-    expect(&rt, &mut shelf, script, replies, Status::Done)?;
-    assert_eq!(rt; shelf.get(b"f"), Some(BOX_FILE));
+    for (script, replies, bytes) in SAVED {
+        let mut shelf = no_files(alloc);
+        expect(&rt, &mut shelf, script, replies, Status::Done)?;
+        assert_eq!(rt; shelf.get(b"f"), Some(bytes), "at {script}");
+    }
     for (script, replies) in EQUAL_SOLIDS {
         let mut shelf = no_files(alloc);
         expect(&rt, &mut shelf, script, replies, Status::Done)?;
@@ -157,7 +185,7 @@ const NO_FORM: [(&str, &[u8]); 21] = [
 
 /// The number of the call that fails, scripts of which some lines are refused, and the replies. The file `f` is that of
 /// the box.
-const REFUSED: [(u64, &str, &str); 6] = [
+const REFUSED: [(u64, &str, &str); 7] = [
     (
         0,
         "input a 2 / add a 0 0 1 1 / load a evm f / content a / load a evm f / content a",
@@ -173,7 +201,12 @@ const REFUSED: [(u64, &str, &str); 6] = [
         "input a 2 / add a 0 0 1 1 / load a evm none / content a / save a evm none / load a evm none",
         "ok 0 / ok 1 / no missing / ok 1 / ok 48 / ok 0",
     ),
-    // Nothing is fetched where a line is refused before.
+    // Nothing is fetched or placed where a line is refused before.
+    (
+        0,
+        "input a 2 / save a obj f / save zz obj f / load a evm f / load a evm f / save a obj f",
+        "ok 0 / no dim / no name / no shelf / ok 1 / no dim",
+    ),
     (
         0,
         "input a 2 / input d 4 / def c or a a / load zz evm f / load c evm f / load d pgm 1 f / load a pgm 65536 f / load a y4m -1 f / save zz evm f / load a evm f / load a evm f",
@@ -186,7 +219,7 @@ const REFUSED: [(u64, &str, &str); 6] = [
     ),
     (
         NEVER,
-        "input a 2 / load a evm / load a evm .f / load a evm -f / load a evm a/f / load a boxes 1 f / load a pgm f / load a y4m x f / save a boxes f / save a evm / load a evm f",
+        "input a 2 / load a evm / load a evm .f / load a evm -f / load a evm a/f / load a boxes 1 f / load a pgm f / load a y4m x f / save a pgm f / save a evm / load a evm f",
         "ok 0 / no syntax / no syntax / no syntax / no syntax / no syntax / no syntax / no syntax / no syntax / no syntax / ok 1",
     ),
 ];
