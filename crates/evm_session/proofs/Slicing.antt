@@ -1,5 +1,5 @@
 -- Sections and projections, as the model states them.
-use Rattle.std.proofs.Common.{◌≡◌, ℕ, ◌≤◌, Bool, true, not, ◌&&◌, ◌-◌, List, [], ◌∷◌, Option, Some, None, ℤ, pos, neg_ℤ, ◌-ℤ◌, ◌≤ℤ◌, int_le, nat_abs, is_some, refl, ap, ◌∙◌, sym, arith}
+use Rattle.std.proofs.Common.{◌≡◌, ℕ, ◌≤◌, Bool, true, not, ◌&&◌, ◌-◌, List, [], ◌∷◌, Option, Some, None, ℤ, pos, neg_ℤ, ◌-ℤ◌, ◌≤ℤ◌, int_le, nat_abs, is_some, refl, ap, ◌∙◌, sym, subst, arith}
 use Rattle.std.proofs.lemmas.Bool.{false≢true}
 use Rattle.std.proofs.lemmas.Int.{ints}
 use Rattle.evm_cells.specs.Limits.{limit, is_cell_coord}
@@ -33,6 +33,10 @@ deep_enough scene name well s =
     let n = dim_of scene name in
     let low : pos 2 ≤ℤ pos n = le_is (pos 2) (pos n) (and_first (int_le (pos 2) (pos n)) (int_le (pos n) (pos 6)) (stood_dim scene name well s)) in
     omega (arith, ints, low)
+
+-- so have its rows
+pub deep_rows : (scene : Scene) (name : List ℕ) (a v : Vertices) → IsWell scene → stands scene name ≡ true → a ≡ v → v.dim ≡ dim_of scene name → 2 ≤ a.dim
+deep_rows scene name a v well s same dim = subst (λ (n : ℕ). 2 ≤ n) (sym (ap (λ (b : Vertices). b.dim) same ∙ dim)) (deep_enough scene name well s)
 
 -- six at most
 pub shallow_enough : (scene : Scene) (name : List ℕ) → IsWell scene → stands scene name ≡ true → dim_of scene name ≤ 6

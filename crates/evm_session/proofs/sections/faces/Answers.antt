@@ -8,14 +8,13 @@ use Rattle.evm_model.specs.Scene.{value}
 use Rattle.evm_model.specs.Replies.{Faced, reply_text}
 use Rattle.evm_session.specs.Counted.{cuts_reply}
 use Rattle.evm_session.proofs.Turns.{carried}
-use Rattle.evm_session.proofs.Slicing.{deep_enough, axis_by}
+use Rattle.evm_session.proofs.Slicing.{deep_rows, axis_by}
 use Rattle.evm_session.proofs.Counting.{cuts_said}
 use Rattle.evm_session.proofs.sections.faces.Goals as goal
 
 pub cut_faces-requires-clause-deep : goal.cut_faces-requires-clause-deep
 cut_faces-requires-clause-deep c =
-    subst (λ (n : ℕ). 2 ≤ n) (sym (ap (λ (a : Vertices). a.dim) (c.rows.ensures ∙ c.in_ok-solid.ensures) ∙ c.in-Some.ensures.dim))
-    (deep_enough c.args.scene.now c.args.name.now c.facts.ensures c.in-Some.ensures.value.0)
+    deep_rows c.args.scene.now c.args.name.now (vertices_of c.rows.result) c.in-Some.tree.now c.facts.ensures c.in-Some.ensures.value.0 (c.rows.ensures ∙ c.in_ok-solid.ensures) c.in-Some.ensures.dim
 
 pub returns : goal.returns
 returns c =
