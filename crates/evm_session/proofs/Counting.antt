@@ -16,7 +16,7 @@ use Rattle.evm_rows.specs.Rows.{Vertices}
 use Rattle.evm_rows.specs.declared.solid.NoMemory.{NoMemory}
 use Rattle.evm_faces.specs.Counts.{faces_at as counted_at, faces_by_cut}
 use Rattle.evm_faces.specs.declared.counts.CutFaces.{CutFaces as Counted}
-use Rattle.evm_parts.proofs.FloodChains.{parts_are_cell_sets}
+use Rattle.evm_parts.proofs.FloodChains.{floods_are_parts}
 use Rattle.evm_model.specs.Figures.{Figure, faces_at, faces_of, parts_of, vertices_in, content_of}
 use Rattle.evm_model.specs.Replies.{Faced, Parted, line_of, rows_text, cut_text, cuts_text, part_text, parts_text, reply_text}
 use Rattle.evm_scene.specs.Tables.{figure_of}
@@ -101,4 +101,4 @@ parts_said v n found d e =
     ap (λ (m : ℕ). parts_reply m found) d
     ∙ ap (parts_reply v.dim) e
     ∙ ap (λ (m : ℕ). line_of (codes "ok " ++ decimal m) ++ parts_lines v.dim (map (evm v.dim) (parts S))) (length-map (parts S) (evm v.dim) ∙ sym (length-map (parts S) whole))
-    ∙ ap (λ (t : List ℕ). line_of (codes "ok " ++ decimal (length (map whole (parts S)))) ++ t) (lines_of_parts v.dim (parts S) (parts_are_cell_sets v.dim S (cell_set-cells v.dim v.rows)))
+    ∙ ap (λ (t : List ℕ). line_of (codes "ok " ++ decimal (length (map whole (parts S)))) ++ t) (lines_of_parts v.dim (parts S) (floods_are_parts v.dim S (cell_set-cells v.dim v.rows)).cell_sets)
