@@ -1,11 +1,12 @@
 -- Chains of neighbours, and parents that keep to them.
-use Rattle.std.proofs.Common.{◌≡◌, ◌≢◌, ℕ, ◌+◌, ◌<◌, ◌≤◌, ◌⊎◌, ⊎_elim, Bool, true, false, ◌&&◌, ◌||◌, List, [], ◌∷◌, ℤ, int_lt, length, get_or, set, refl, sym, ap, ap₂, ◌∙◌, subst, arith}
+use Rattle.std.proofs.Common.{◌≡◌, ◌≢◌, ℕ, ◌+◌, ◌<◌, ◌≤◌, ◌⊎◌, ⊎_elim, ◌&&◌, ◌||◌, List, [], ◌∷◌, ℤ, int_lt, length, get_or, set, refl, sym, ap, ap₂, ◌∙◌, subst, arith}
 use Rattle.std.specs.List.{range_with_len}
 use Rattle.std.proofs.lemmas.Bool.{cases_lt}
 use Rattle.std.proofs.lemmas.List.{get_or-set_same, get_or-set_other}
 use Rattle.std.proofs.lemmas.List.Elements.{All-contains}
 use Rattle.std.proofs.lemmas.List.FromFn.{get_or-range_with_len}
 use Rattle.std.proofs.Math.ListN.{length-set}
+use Rattle.std.proofs.Math.Bool.{or_comm}
 use Rattle.std.specs.Ordering.{int_eq}
 use Rattle.evm_cells.specs.Unions.{Ends}
 use Rattle.evm_cells.proofs.Xor.{and_comm}
@@ -18,12 +19,6 @@ use Rattle.evm_parts.specs.declared.neighbours.Link.{Link}
 use Rattle.evm_parts.proofs.Parents.{by_box, above_low, above_top, alike_above, higher_parents}
 
 -- ---- neighbours, both ways
-
-or_comm : (a b : Bool) → (a || b) ≡ (b || a)
-or_comm true true = refl
-or_comm true false = refl
-or_comm false true = refl
-or_comm false false = refl
 
 overlapping_sym : (lo hi low high : List ℤ) → overlapping lo hi low high ≡ overlapping low high lo hi
 unfolding overlapping
@@ -87,7 +82,7 @@ chain_back boxes i j (onward m o p step way) =
 -- ---- parents that keep to chains
 
 -- each parent is chained to its box, and each of the first links joins two boxes alike
-pub record AreJoined (boxes : List Ends) (links : List Link) (count : ℕ) (ps : List ℕ) : Type 0 where
+pub record AreTied (boxes : List Ends) (links : List Link) (count : ℕ) (ps : List ℕ) : Type 0 where
   pub many : length ps ≡ length boxes
   pub low : AreParents ps
   pub chained : (i : ℕ) → i < length ps → IsChained boxes i (parent_at ps i)
@@ -97,7 +92,7 @@ chained_above : (boxes : List Ends) (ps : List ℕ) (i j : ℕ) → ((k : ℕ) �
 chained_above boxes ps i j c (parents.here k) = here k
 chained_above boxes ps i j c (up k m within way) = chain_then boxes k (parent_at ps k) m (c k within) (chained_above boxes ps (parent_at ps k) m c way)
 
-pub joined_start : (boxes : List Ends) (links : List Link) (ps : List ℕ) → ps ≡ range_with_len 0 (length boxes) → length ps ≡ length boxes → AreJoined boxes links 0 ps
+pub joined_start : (boxes : List Ends) (links : List Link) (ps : List ℕ) → ps ≡ range_with_len 0 (length boxes) → length ps ≡ length boxes → AreTied boxes links 0 ps
 joined_start boxes links ps e n = record {
   many = n;
   low = record { low = λ i l. let q = itself i l in omega (arith, q) };
@@ -108,7 +103,7 @@ joined_start boxes links ps e n = record {
     itself : (i : ℕ) → i < length ps → parent_at ps i ≡ i
     itself i l = ap (λ qs. get_or qs i 0) e ∙ get_or-range_with_len 0 (length boxes) i 0 (omega arith) ∙ (let z : 0 + i ≡ i = omega arith in z)
 
-pub joined_higher : (boxes : List Ends) (links : List Link) (count : ℕ) (old new : List ℕ) → AreJoined boxes links count old → AreHigher old new → AreJoined boxes links count new
+pub joined_higher : (boxes : List Ends) (links : List Link) (count : ℕ) (old new : List ℕ) → AreTied boxes links count old → AreHigher old new → AreTied boxes links count new
 joined_higher boxes links count old new h m = record {
   many = m.many ∙ h.many;
   low = higher_parents old new h.low m;
@@ -131,8 +126,8 @@ alike_now ps high low f within a =
     let n = length-set ps high low in
     a.alike high (omega (arith, n, within)) ∙ ap f (get_or-set_same ps high low 0 within)
 
-joined_lower : (boxes : List Ends) (links : List Link) (count : ℕ) (ps : List ℕ) (high low : ℕ) → AreJoined boxes links count ps → high < length ps → low ≤ high → parent_at ps high ≡ high
-    → IsChained boxes high low → AreJoined boxes links count (set ps high low)
+joined_lower : (boxes : List Ends) (links : List Link) (count : ℕ) (ps : List ℕ) (high low : ℕ) → AreTied boxes links count ps → high < length ps → low ≤ high → parent_at ps high ≡ high
+    → IsChained boxes high low → AreTied boxes links count (set ps high low)
 joined_lower boxes links count ps high low h within below top way = record {
   many = length-set ps high low ∙ h.many;
   low = record {
@@ -168,9 +163,9 @@ pub record AreTops (ps qs rs : List ℕ) (first second a b : ℕ) : Type 0 where
   pub above_second : IsAbove qs second b
   pub higher_second : AreHigher qs rs
 
-pub joined_more : (boxes : List Ends) (links : List Link) (k : ℕ) (ps qs rs : List ℕ) (link : Link) (a b high low : ℕ) → AreJoined boxes links k ps → AreLinks boxes links
+pub joined_more : (boxes : List Ends) (links : List Link) (k : ℕ) (ps qs rs : List ℕ) (link : Link) (a b high low : ℕ) → AreTied boxes links k ps → AreLinks boxes links
     → k < length links → ((d : Link) → link ≡ get_or links k d) → AreTops ps qs rs link.first link.second a b
-    → ((high ≡ a) × (low ≡ b)) ⊎ ((high ≡ b) × (low ≡ a)) → low ≤ high → AreJoined boxes links (k + 1) (set rs high low)
+    → ((high ≡ a) × (low ≡ b)) ⊎ ((high ≡ b) × (low ≡ a)) → low ≤ high → AreTied boxes links (k + 1) (set rs high low)
 joined_more boxes links k ps qs rs link a b high low h s within e t way below = record {
   many = base.many;
   low = base.low;
@@ -184,10 +179,10 @@ joined_more boxes links k ps qs rs link a b high low h s within e t way below = 
     is_link : IsLink boxes link
     is_link = subst (IsLink boxes) (sym (e link)) (s.sound k link within)
 
-    joined_qs : AreJoined boxes links k qs
+    joined_qs : AreTied boxes links k qs
     joined_qs = joined_higher boxes links k ps qs h t.higher_first
 
-    joined_rs : AreJoined boxes links k rs
+    joined_rs : AreTied boxes links k rs
     joined_rs = joined_higher boxes links k qs rs joined_qs t.higher_second
 
     first_within : link.first < length ps
@@ -238,7 +233,7 @@ joined_more boxes links k ps qs rs link a b high low h s within e t way below = 
         (λ u. subst (λ (z : ℕ). IsChained boxes z low) (sym u.0) (subst (IsChained boxes b) (sym u.1) (chain_back boxes a b chain)))
         way
 
-    base : AreJoined boxes links k (set rs high low)
+    base : AreTied boxes links k (set rs high low)
     base = joined_lower boxes links k rs high low joined_rs high_within below high_top high_chain
 
     now : (f : ℕ → ℕ) → IsAlike (set rs high low) f → f link.first ≡ f link.second
@@ -253,7 +248,7 @@ joined_more boxes links k ps qs rs link a b high low h s within e t way below = 
 
 -- ---- the labels
 
-pub labels_are : (boxes : List Ends) (links : List Link) (ps ls : List ℕ) → AreLinks boxes links → AreJoined boxes links (length links) ps → AreHigher ps ls → IsAlike ps (λ i. parent_at ls i) → AreLabels boxes ls
+pub labels_are : (boxes : List Ends) (links : List Link) (ps ls : List ℕ) → AreLinks boxes links → AreTied boxes links (length links) ps → AreHigher ps ls → IsAlike ps (λ i. parent_at ls i) → AreLabels boxes ls
 labels_are boxes links ps ls s h m a = record {
   many = m.many ∙ h.many;
   reached = λ i l. chained_above boxes ps i (label_at ls i) h.chained (m.above i (omega (arith, l, n)));

@@ -4,27 +4,20 @@ use Rattle.evm_cells.specs.Unions.{Ends}
 use Rattle.evm_cells.specs.Vertices.{evm, cells}
 use Rattle.evm_cells.proofs.Universe.{cell_set-cells}
 use Rattle.evm_rows.specs.Rows.{rows_of}
+use Rattle.evm_rows.specs.View.{vertices_of}
 use Rattle.evm_partition.specs.Partition.{partition}
 use Rattle.evm_parts.specs.Labels.{AreLabels}
-use Rattle.evm_parts.specs.Links.{AreNested}
 use Rattle.evm_parts.specs.PartRows.{parts_at, AreApart}
 use Rattle.evm_parts.proofs.Apart.{partition_apart}
-use Rattle.evm_parts.proofs.NestedSlabs.{nested_partition}
+use Rattle.evm_parts.proofs.NestedSlabs.{nested_boxes}
 use Rattle.evm_parts.proofs.OnePart.{one_part}
 use Rattle.evm_parts.proofs.PartLists.{labels_within, all_parts}
 use Rattle.evm_parts.proofs.components.parts.Goals as goal
 
--- what holds of the stated partition, of the boxes that were split off
-of_partition : (P : ℕ → List Ends → Type 0) (n m : ℕ) (boxes found : List Ends) → m ≡ n → found ≡ boxes → P n boxes → P m found
-of_partition P n m boxes found d b h = subst (λ (k : ℕ). P k found) (sym d) (subst (P n) (sym b) h)
-
 pub links-requires : goal.links-requires
 links-requires c =
     let a = c.args.a in
-    let n : ℕ = a.width - a.skip in
-    let V : List (List ℤ) = rows_of a.flat.now a.width a.skip in
-    let S : List (List ℤ) = cells n V in
-    of_partition AreNested n c.in_ok-boxes.boxes.dim (partition n S) c.in_ok-boxes.boxes.boxes c.in_ok-boxes.ensures.dim c.in_ok-boxes.ensures.boxes (nested_partition n S (cell_set-cells n V))
+    nested_boxes c.in_ok-boxes.boxes (vertices_of a) c.in_ok-boxes.ensures.dim c.in_ok-boxes.ensures.boxes
 
 pub unions-requires-clause-within : goal.unions-requires-clause-within
 unions-requires-clause-within c =
@@ -36,8 +29,8 @@ unions-requires-clause-apart c =
     let a = c.args.a in
     let n : ℕ = a.width - a.skip in
     let V : List (List ℤ) = rows_of a.flat.now a.width a.skip in
-    let S : List (List ℤ) = cells n V in
-    of_partition AreApart n c.in_ok-boxes.boxes.dim (partition n S) c.in_ok-boxes.boxes.boxes c.in_ok-boxes.ensures.dim c.in_ok-boxes.ensures.boxes (partition_apart n S (cell_set-cells n V))
+    subst (λ (k : ℕ). AreApart k c.in_ok-boxes.boxes.boxes) (sym c.in_ok-boxes.ensures.dim)
+    (subst (AreApart n) (sym c.in_ok-boxes.ensures.boxes) (partition_apart n (cells n V) (cell_set-cells n V)))
 
 pub returns-then-are_one-clause-parts : goal.returns-then-are_one-clause-parts
 returns-then-are_one-clause-parts c =

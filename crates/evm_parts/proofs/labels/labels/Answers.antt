@@ -6,7 +6,7 @@ use Rattle.std.proofs.Math.Seq.{take-append_seam}
 use Rattle.std.proofs.lemmas.List.FromFn.{length-range_with_len}
 use Rattle.evm_parts.specs.Labels.{AreLabels}
 use Rattle.evm_parts.proofs.Parents.{higher_parents}
-use Rattle.evm_parts.proofs.Chains.{AreJoined, joined_start, joined_more, labels_are}
+use Rattle.evm_parts.proofs.Chains.{AreTied, joined_start, joined_more, labels_are}
 use Rattle.evm_parts.proofs.labels.labels.Goals as goal
 
 pub loop-link-init : goal.loop-link-init
@@ -46,7 +46,7 @@ returns c =
     let long : c.in_ok-parents.parents.len ≡ length ls =
     v ∙ sym (c.loop-link.auto.tops ∙ ap length c.as_mut_slice-tops.ensures.value) ∙ sym h.higher.many in
     let end : c.loop-link.link-index ≡ length links = omega arith in
-    let joined = subst (λ (k : ℕ). AreJoined boxes links k c.loop-link.tops) end c.loop-link.invariant in
+    let joined = subst (λ (k : ℕ). AreTied boxes links k c.loop-link.tops) end c.loop-link.invariant in
     let same : take c.in_ok-parents.parents.len (ls ++ drop (length ls) c.in_ok-parents.parents.items) ≡ ls =
     ap (λ k. take k (ls ++ drop (length ls) c.in_ok-parents.parents.items)) long ∙ take-append_seam ls (drop (length ls) c.in_ok-parents.parents.items) in
     subst (AreLabels boxes) (sym same) (labels_are boxes links c.loop-link.tops ls c.requires joined h.higher h.alike)
