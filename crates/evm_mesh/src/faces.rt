@@ -1,4 +1,4 @@
-// Faces files.
+//! Faces files.
 ghost use Rattle.std.specs.Prelude.{◌≡◌, ◌≤◌, ◌++◌, [], ◌∷◌, map, IfOk, OnOk};
 ghost use Rattle.evm_rows.specs.Rows.{cells_of};
 ghost use Rattle.evm_text.specs.Lines.{text_of};
@@ -18,8 +18,8 @@ use std::io::Write;
 /// and then of the upper one on the other axes, in plain decimal, with one space between each two. Each line is ended by a line
 /// feed.
 ///
-/// For each axis the rows are sorted and walked over once, and each cut takes as long as the sections below and above it, so many
-/// cuts of small sections are quick. It takes memory for the boxes of all faces, for the text, and for the rows a few times. The
+/// For each axis the rows are sorted and walked over once, and each cut takes as long as the sections below and above it. So a plan
+/// of twice as many boxes, of half the size, takes about twice as long or a little more. It takes memory for the boxes of all faces, for the text, and for the rows a few times. The
 /// one error is want of memory.
 pub fn write_faces(alloc: Global, a: &Solid) -> Result<Vec<u8>, NoMemory>
     requires { 2 ≤ a.now.dim }

@@ -1,4 +1,4 @@
-// Meshes of solids in space.
+//! Meshes of solids in space.
 ghost use Rattle.std.specs.Prelude.{◌≡◌, ◌++◌, true, All, map, IfOk, OnOk};
 ghost use Rattle.evm_cells.specs.Places.{ascending};
 ghost use Rattle.evm_rows.specs.Rows.{cells_of};

@@ -1,4 +1,4 @@
-// The faces of a solid, cut by cut.
+//! The faces of a solid, cut by cut.
 ghost use Rattle.std.specs.Prelude.{◌≡◌, ◌-◌, ◌<◌, ◌≤◌, ◌+◌, ◌++◌, true, All, IfOk, OnOk};
 ghost use Rattle.evm_cells.specs.Limits.{is_point_coord};
 ghost use Rattle.evm_rows.specs.Rows.{cells_of};

@@ -1,4 +1,4 @@
-// The corners of faces in space, and their numbers.
+//! The corners of faces in space, and their numbers.
 ghost use Rattle.std.specs.Prelude.{◌≡◌, ◌<◌, ◌++◌, [], ◌∷◌, true, All, IfOk, OnOk, length, flat_map};
 ghost use Rattle.evm_cells.specs.Places.{ascending, before, with_at};
 ghost use Rattle.evm_formats.specs.ObjText.{face_corners, mesh_vertices, vertex_number};
