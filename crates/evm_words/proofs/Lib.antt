@@ -1,0 +1,5 @@
+pub mod Walks
+pub mod Uses
+pub mod Taking
+pub mod Stating
+pub mod Numbers
