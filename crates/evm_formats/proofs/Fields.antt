@@ -10,7 +10,7 @@ use Rattle.byteorder.specs.Numbers.{big_from-cons, big_from-lt, big_number-reads
 use Rattle.evm_cells.specs.Limits.{is_point_coord, limit}
 use Rattle.evm_cells.proofs.Coords.{point_is}
 use Rattle.evm_cells.proofs.Xor.{and_first, and_second}
-use Rattle.evm_formats.specs.File.{field, numbers}
+use Rattle.evm_formats.specs.FirstFile.{field, numbers}
 use Rattle.evm_formats.proofs.Limits.{limit_small}
 
 pow_pos : (n : ℕ) → 0 < 256 ^ n

@@ -1,8 +1,9 @@
 pub mod Limits
 pub mod Fields
 pub mod Frames
-pub mod FileRefusals
-pub mod FileLaws
+pub mod Bodies
+
+
 pub mod Images
 pub mod Lengths
 pub mod ImageSets

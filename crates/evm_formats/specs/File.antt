@@ -1,85 +1,92 @@
--- The EVM file, version 1: what its bytes state (this project's own format).
-use Rattle.std.specs.Prelude.{◌≡◌, ℕ, ◌+◌, ◌*◌, ◌<◌, ◌≤◌, ◌^◌, ◌↔◌, List, [], ◌∷◌, ◌++◌, flat_map, length, take, drop, slice_index, ℤ}
-use Rattle.std.specs.Int.{cast_unsigned, cast_signed, w32}
-use Rattle.byteorder.specs.Endian.{big_bytes, big_number}
-use Rattle.evm_cells.specs.Limits.{IsCellSet}
-use Rattle.evm_cells.specs.Vertices.{evm}
+-- The EVM file: what its bytes state (this project's own format). Version 2 is written, and both versions are read.
+use Rattle.std.specs.Prelude.{◌≡◌, ◌≢◌, ℕ, ◌<◌, ◌≤◌, ◌^◌, ◌==◌, true, if◌then◌else◌, ◌↔◌, ◌⊎◌, Option, Some, None, List, [], ◌∷◌, ◌++◌, flat_map, length, take, drop, slice_index, ℤ}
+use Rattle.std.specs.List.{list_all}
+use Rattle.byteorder.specs.Endian.{big_number}
+use Rattle.evm_cells.specs.Limits.{is_point, IsCellSet}
 use Rattle.evm_cells.specs.Boxes.{box_cells}
 use Rattle.evm_cells.specs.Examples.{plane}
-use Rattle.evm_rows.specs.Rows.{Vertices, IsSolid, cells_of, flat_of, rows_of}
+use Rattle.evm_rows.specs.Rows.{Vertices, IsSolid, cells_of}
 use Rattle.evm_rows.specs.Check.{IsRefusal}
 use Rattle.evm_rows.specs.declared.check.RowError.{RowError}
 use Rattle.evm_rows.specs.declared.check.RowError.TheVariants as rows
 use Rattle.evm_formats.specs.declared.file.FileError.{FileError}
-use Rattle.evm_formats.specs.declared.file.FileError.TheVariants.{Head, Length, Range, Order, Odd, NoMemory}
+use Rattle.evm_formats.specs.declared.file.FileError.TheVariants.{Head, Length, Range, Order, Odd, Empty, NoMemory}
+use Rattle.evm_formats.specs.FirstFile.{first_file_bytes, first_file_of_cells, IsFirst, HasLength, listed_rows, stated_dim, Lists}
+use Rattle.evm_formats.specs.Nested.{body, Reading, whole_body}
 
 -- ---- what is written
 
--- a coordinate's field: its four bytes in two's complement, the most significant first
-abbrev pub field : ℤ → List ℕ
-field x = big_bytes 4 (cast_unsigned w32 x)
-
--- the first eight bytes: the letters NEVM, the version 1, the dimension, and two zeros
+-- the first eight bytes: the letters NEVM, the version 2, the dimension, and two zeros
 abbrev pub head_bytes : ℕ → List ℕ
-head_bytes dim = 78 ∷ 69 ∷ 86 ∷ 77 ∷ 1 ∷ dim ∷ 0 ∷ 0 ∷ []
+head_bytes dim = 78 ∷ 69 ∷ 86 ∷ 77 ∷ 2 ∷ dim ∷ 0 ∷ 0 ∷ []
 
--- the file of extreme vertices: head, number of rows, and the fields of row after row
-unfoldable pub file_bytes : Vertices → List ℕ
-file_bytes v = head_bytes v.dim ++ big_bytes 8 (length v.rows) ++ flat_map field (flat_of v.rows)
+-- the file of a cell set: head and body
+unfoldable pub file_of_cells : ℕ → List (List ℤ) → List ℕ
+file_of_cells n S = head_bytes n ++ body n S
 
--- the file of a cell set: that of its extreme vertices
-abbrev pub file_of_cells : ℕ → List (List ℤ) → List ℕ
-file_of_cells n S = file_bytes (record { dim = n; rows = evm n S })
+-- the file of extreme vertices: that of their cells
+abbrev pub file_bytes : Vertices → List ℕ
+file_bytes v = file_of_cells v.dim (cells_of v)
 
 -- ---- what bytes state
 
--- the coordinates of the fields in bytes, four bytes by four
-unfoldable pub numbers : List ℕ → List ℤ
-numbers (a ∷ b ∷ c ∷ d ∷ xs) = cast_signed w32 (big_number 4 (a ∷ b ∷ c ∷ d ∷ [])) ∷ numbers xs
-numbers _ = []
-
--- the bytes begin with a header: 16 bytes, of which the first eight are a head of dimension 1 to 6
-pub record IsHeaded (bytes : List ℕ) : Type 0 where
-  pub long : 16 ≤ length bytes
+-- the bytes begin with a header of version 2: eight bytes, of dimension 1 to 6
+pub record IsSecond (bytes : List ℕ) : Type 0 where
+  pub long : 8 ≤ length bytes
   pub magic : take 4 bytes ≡ 78 ∷ 69 ∷ 86 ∷ 77 ∷ []
-  pub version : slice_index bytes 4 ≡ 1
+  pub version : slice_index bytes 4 ≡ 2
   pub some : 1 ≤ slice_index bytes 5
   pub few : slice_index bytes 5 ≤ 6
   pub six : slice_index bytes 6 ≡ 0
   pub seven : slice_index bytes 7 ≡ 0
 
--- the dimension that a header states
-abbrev pub stated_dim : List ℕ → ℕ
-stated_dim bytes = slice_index bytes 5
+-- the bytes begin with a header of either version
+abbrev pub IsHeaded : List ℕ → Type 0
+IsHeaded bytes = IsFirst bytes ⊎ IsSecond bytes
 
--- the number of rows that a header states
-abbrev pub stated_count : List ℕ → ℕ
-stated_count bytes = big_number 8 (drop 8 bytes)
+-- what the bytes after a header of version 2 state, or None where they are not exactly one body
+abbrev pub reading : List ℕ → Option Reading
+reading bytes = whole_body (stated_dim bytes) (drop 8 bytes)
 
--- the length is exactly that which the header states; it is taken of whole numbers, so nothing wraps
-abbrev pub HasLength : List ℕ → Type 0
-HasLength bytes = length bytes ≡ 16 + 4 * stated_dim bytes * stated_count bytes
+-- the outermost count, which alone may be 0
+abbrev pub outer_count : List ℕ → ℕ
+outer_count bytes = big_number 4 (drop 8 bytes)
 
--- the bytes have a header, and the length that it states
-abbrev pub IsFramed : List ℕ → Type 0
-IsFramed bytes = IsHeaded bytes × HasLength bytes
+-- no count but the outermost is 0
+abbrev pub IsFilled : ℕ → Reading → Type 0
+IsFilled outer s = (outer ≡ 0) ⊎ (s.gap ≡ None)
 
--- the rows that the bytes after the header state
-abbrev pub stated_rows : List ℕ → List (List ℤ)
-stated_rows bytes = rows_of (numbers (drop 16 bytes)) (stated_dim bytes) 0
+-- e is the first refusal of bytes with a header of version 1, after that header
+abbrev pub ListedRefusal : List ℕ → FileError → Type 0
+ListedRefusal bytes Length = ¬ HasLength bytes
+ListedRefusal bytes (Range k) = HasLength bytes × IsRefusal (stated_dim bytes) (listed_rows bytes) (rows.Range k)
+ListedRefusal bytes (Order k) = HasLength bytes × IsRefusal (stated_dim bytes) (listed_rows bytes) (rows.Order k)
+ListedRefusal bytes (Odd a) = HasLength bytes × IsRefusal (stated_dim bytes) (listed_rows bytes) (rows.Odd a)
+ListedRefusal bytes e = ⊥
 
--- e is the first refusal of the rows that the bytes state
-abbrev pub RefusesRows : List ℕ → RowError → Type 0
-RefusesRows bytes e = IsFramed bytes × IsRefusal (stated_dim bytes) (stated_rows bytes) e
+-- e is the first refusal of what is read in dimension n; the row of a count of 0 is the number of rows before it, and that of a
+-- number that is not greater than the one before it in its body is the first row that it leads to
+abbrev pub RefusesReading : ℕ → ℕ → Reading → FileError → Type 0
+RefusesReading n outer s (Empty k) = (0 < outer) × (s.gap ≡ Some k)
+RefusesReading n outer s (Range k) = IsFilled outer s × IsRefusal n s.rows (rows.Range k)
+RefusesReading n outer s (Order k) = IsFilled outer s × (list_all (is_point n) s.rows ≡ true) × (s.fall ≡ Some k)
+RefusesReading n outer s (Odd a) = IsFilled outer s × (s.fall ≡ None) × IsRefusal n s.rows (rows.Odd a)
+RefusesReading n outer s e = ⊥
+
+-- the same of what may have been read
+abbrev pub RefusesBody : ℕ → ℕ → Option Reading → FileError → Type 0
+RefusesBody n outer (Some s) e = RefusesReading n outer s e
+RefusesBody n outer None Length = Unit {0}
+RefusesBody n outer None e = ⊥
+
+-- e is the first refusal of bytes with a header of version 2, after that header
+abbrev pub NestedRefusal : List ℕ → FileError → Type 0
+NestedRefusal bytes e = RefusesBody (stated_dim bytes) (outer_count bytes) (reading bytes) e
 
 -- e is the first refusal of the bytes (this project's own order of tests)
 abbrev pub IsFileRefusal : List ℕ → FileError → Type 0
 IsFileRefusal bytes Head = ¬ IsHeaded bytes
-IsFileRefusal bytes Length = IsHeaded bytes × (¬ HasLength bytes)
-IsFileRefusal bytes (Range k) = RefusesRows bytes (rows.Range k)
-IsFileRefusal bytes (Order k) = RefusesRows bytes (rows.Order k)
-IsFileRefusal bytes (Odd a) = RefusesRows bytes (rows.Odd a)
-IsFileRefusal bytes NoMemory = ⊥
+IsFileRefusal bytes e = (IsFirst bytes × ListedRefusal bytes e) ⊎ (IsSecond bytes × NestedRefusal bytes e)
 
 -- the refusal of a file for a refusal of its rows
 abbrev pub of_row : RowError → FileError
@@ -88,11 +95,25 @@ of_row (rows.Order k) = Order k
 of_row (rows.Odd a) = Odd a
 of_row rows.NoMemory = NoMemory
 
--- the bytes have a header and the length that it states, and state these extreme vertices
-pub record States (bytes : List ℕ) (v : Vertices) : Type 0 where
-  pub framed : IsFramed bytes
+-- the bytes have a header of version 2 and one whole body, in which each height and coordinate is greater than the one before it and
+-- no count but the outermost is 0, and state these extreme vertices
+pub record Nests (bytes : List ℕ) (v : Vertices) : Type 0 where
+  pub second : IsSecond bytes
+  pub seen : Reading
+  pub read : reading bytes ≡ Some seen
+  pub filled : IsFilled (outer_count bytes) seen
+  pub rises : seen.fall ≡ None
   pub dim : stated_dim bytes ≡ v.dim
-  pub rows : stated_rows bytes ≡ v.rows
+  pub rows : seen.rows ≡ v.rows
+
+-- the rows of what was read
+abbrev pub rows_in : Option Reading → List (List ℤ)
+rows_in None = []
+rows_in (Some s) = s.rows
+
+-- the rows that bytes of either version state
+abbrev pub stated_rows : List ℕ → List (List ℤ)
+stated_rows bytes = if slice_index bytes 4 == 1 then listed_rows bytes else rows_in (reading bytes)
 
 -- n is a dimension of solids, and S is a cell set of it
 pub record IsSolidCells (n : ℕ) (S : List (List ℤ)) : Type 0 where
@@ -100,42 +121,65 @@ pub record IsSolidCells (n : ℕ) (S : List (List ℤ)) : Type 0 where
   pub high : n ≤ 6
   pub cells : IsCellSet n S
 
+-- the bytes are a file of extreme vertices, of either version
+abbrev pub IsFileOf : List ℕ → Vertices → Type 0
+IsFileOf bytes v = (bytes ≡ file_bytes v) ⊎ (bytes ≡ first_file_bytes v)
+
+-- the bytes are a file of a cell set, of either version
+abbrev pub IsFileOfCells : List ℕ → ℕ → List (List ℤ) → Type 0
+IsFileOfCells bytes n S = (bytes ≡ file_of_cells n S) ⊎ (bytes ≡ first_file_of_cells n S)
+
 -- ---- laws
 
--- two solids have equal files exactly if they have one dimension and the same cells
-abbrev pub SolidsByFiles : Type 0
-SolidsByFiles = (v w : Vertices) → IsSolid v → IsSolid w
-    → (file_bytes v ≡ file_bytes w) ↔ ((v.dim ≡ w.dim) × (cells_of v ≡ cells_of w))
+-- two solids have equal files exactly if they have one dimension and the same cells; `file` writes one version
+abbrev pub TellsSolids : (Vertices → List ℕ) → Type 0
+TellsSolids file = (v w : Vertices) → IsSolid v → IsSolid w
+    → (file v ≡ file w) ↔ ((v.dim ≡ w.dim) × (cells_of v ≡ cells_of w))
 
 -- two cell sets have equal files exactly if they are equal and of one dimension
-abbrev pub CellsByFiles : Type 0
-CellsByFiles = (n m : ℕ) (S T : List (List ℤ)) → IsSolidCells n S → IsSolidCells m T
-    → (file_of_cells n S ≡ file_of_cells m T) ↔ ((n ≡ m) × (S ≡ T))
+abbrev pub TellsCells : (ℕ → List (List ℤ) → List ℕ) → Type 0
+TellsCells file = (n m : ℕ) (S T : List (List ℤ)) → IsSolidCells n S → IsSolidCells m T
+    → (file n S ≡ file m T) ↔ ((n ≡ m) × (S ≡ T))
+
+-- no file of one version is one of the other
+abbrev pub VersionsDiffer : Type 0
+VersionsDiffer = (v w : Vertices) → file_bytes v ≢ first_file_bytes w
 
 -- fewer than 2 ^ 64 numbers below 256
 pub record AreBytes (bytes : List ℕ) : Type 0 where
   pub small : (i : ℕ) → slice_index bytes i < 256
   pub few : length bytes < 2 ^ 64
 
--- bytes are the file of a solid exactly if they have a header and the length that it states, and state that solid
+-- bytes are the file of a solid, of version 2 or of version 1, exactly if they state that solid in it
 abbrev pub FilesByStatement : Type 0
-FilesByStatement = (bytes : List ℕ) (v : Vertices) → AreBytes bytes → IsSolid v → (bytes ≡ file_bytes v) ↔ States bytes v
+FilesByStatement = (bytes : List ℕ) (v : Vertices) → AreBytes bytes → IsSolid v
+    → ((bytes ≡ file_bytes v) ↔ Nests bytes v) × ((bytes ≡ first_file_bytes v) ↔ Lists bytes v)
 
 -- bytes have at most one first refusal
 abbrev pub OneFileRefusal : Type 0
 OneFileRefusal = (bytes : List ℕ) (e f : FileError) → IsFileRefusal bytes e → IsFileRefusal bytes f → e ≡ f
 
--- the file of a solid has none
+-- the files of a solid have none
 abbrev pub FilesAreNotRefused : Type 0
-FilesAreNotRefused = (v : Vertices) (e : FileError) → IsSolid v → length (file_bytes v) < 2 ^ 64 → ¬ IsFileRefusal (file_bytes v) e
+FilesAreNotRefused = (bytes : List ℕ) (v : Vertices) (e : FileError) → IsSolid v → IsFileOf bytes v → length bytes < 2 ^ 64
+    → ¬ IsFileRefusal bytes e
 
--- ---- a worked file
+-- ---- worked files
 
 -- the fields of small numbers that are not negative
 abbrev pub small_fields : List ℕ → List ℕ
 small_fields = flat_map (λ x. 0 ∷ 0 ∷ 0 ∷ x ∷ [])
 
--- the file of the box from (0, 0) to (2, 3): a header of dimension 2 and four rows, and its corners
+-- the box from (0, 0) to (2, 3)
+abbrev pub six_cells : List (List ℤ)
+six_cells = box_cells 2 (plane 0 0) (plane 2 3)
+
+-- its file: a header of dimension 2, two couplets, and each with its height and its two coordinates
 abbrev pub FileOfSix : Type 0
-FileOfSix = file_of_cells 2 (box_cells 2 (plane 0 0) (plane 2 3))
+FileOfSix = file_of_cells 2 six_cells
+    ≡ 0x4E ∷ 0x45 ∷ 0x56 ∷ 0x4D ∷ 2 ∷ 2 ∷ 0 ∷ 0 ∷ small_fields (2 ∷ 0 ∷ 2 ∷ 0 ∷ 3 ∷ 2 ∷ 2 ∷ 0 ∷ 3 ∷ [])
+
+-- its file of version 1: a header of dimension 2 and four rows, and its corners
+abbrev pub FirstFileOfSix : Type 0
+FirstFileOfSix = first_file_of_cells 2 six_cells
     ≡ 0x4E ∷ 0x45 ∷ 0x56 ∷ 0x4D ∷ 1 ∷ 2 ∷ 0 ∷ 0 ∷ 0 ∷ 0 ∷ 0 ∷ 0 ∷ 0 ∷ 0 ∷ 0 ∷ 4 ∷ small_fields (0 ∷ 0 ∷ 0 ∷ 3 ∷ 2 ∷ 0 ∷ 2 ∷ 3 ∷ [])
