@@ -61,10 +61,10 @@ field_of_number xs l h =
 limit-fits : (n : ℕ) → limit n < 2 ^ 31
 limit-fits n = omega (arith, limit_small n)
 
-fits_is : (n : ℕ) (z : ℤ) → is_point_coord n z ≡ true → SFits w32 z
+pub fits_is : (n : ℕ) (z : ℤ) → is_point_coord n z ≡ true → SFits w32 z
 fits_is n z h = let (a, b) = point_is n z h in let l = limit-fits n in search (rules, int_facts)
 
-of_z-below : (z : ℤ) → SFits w32 z → cast_unsigned w32 z < 256 ^ 4
+pub of_z-below : (z : ℤ) → SFits w32 z → cast_unsigned w32 z < 256 ^ 4
 of_z-below z f = omega (arith, int_facts, f)
 
 numbers-nil : numbers [] ≡ []

@@ -2,6 +2,8 @@ pub mod Limits
 pub mod Fields
 pub mod Frames
 pub mod Bodies
+pub mod BodyReads
+pub mod BodyBytes
 
 
 pub mod Images
