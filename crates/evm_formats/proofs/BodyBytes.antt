@@ -163,21 +163,21 @@ height_more below inner n k front last s u t small long w v =
 abbrev KeepsSmall : (List ℤ → Reading → Option Reading) → Type 0
 KeepsSmall below = (front : List ℤ) (s t : Reading) → AreSmall s.rest → below front s ≡ Some t → AreSmall t.rest
 
-some_is : (a b : Reading) → Some a ≡ Some b → a ≡ b
+pub some_is : (a b : Reading) → Some a ≡ Some b → a ≡ b
 some_is a b q = cc
 
 -- a reading goes on from a field that is there
-record GoesOn (o : Option Reading) (f : Reading → Option Reading) (t : Reading) : Type 0 where
+pub record GoesOn (o : Option Reading) (f : Reading → Option Reading) (t : Reading) : Type 0 where
   pub between : Reading
   pub first : o ≡ Some between
   pub second : f between ≡ Some t
 
-goes_on : (o : Option Reading) (f : Reading → Option Reading) (t : Reading) → option_and_then f o ≡ Some t → GoesOn o f t
+pub goes_on : (o : Option Reading) (f : Reading → Option Reading) (t : Reading) → option_and_then f o ≡ Some t → GoesOn o f t
 goes_on None f t e = let bad : None ≡ Some t = e in cc
 goes_on (Some u) f t e = record { between = u; first = refl; second = e }
 
 -- a field is there, where a reading goes on
-is_there : (b : Bool) (o : Option Reading) (t : Reading) → cond b None o ≡ Some t → (b ≡ false) × (o ≡ Some t)
+pub is_there : (b : Bool) (o : Option Reading) (t : Reading) → cond b None o ≡ Some t → (b ≡ false) × (o ≡ Some t)
 is_there true o t e = let bad : None ≡ Some t = e in cc
 is_there false o t e = (refl, e)
 

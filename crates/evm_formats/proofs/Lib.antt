@@ -4,8 +4,9 @@ pub mod Frames
 pub mod Bodies
 pub mod BodyReads
 pub mod BodyBytes
-
-
+pub mod Nesting
+pub mod FileRefusals
+pub mod FileLaws
 pub mod Images
 pub mod Lengths
 pub mod ImageSets
