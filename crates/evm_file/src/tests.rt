@@ -1,9 +1,15 @@
 use crate::{FileError, read, write};
-use evm_rows::Solid;
+use evm_rows::{Solid, xor};
 use std::alloc::{AllocError, Global};
 
 // The box from (0, 0) to (2, 3).
-const BOX: [u8; 48] = [
+const BOX: [u8; 44] = [
+    0x4E, 0x45, 0x56, 0x4D, 2, 2, 0, 0, 0, 0, 0, 2, 0, 0, 0, 0, 0, 0, 0, 2, 0, 0, 0, 0, 0, 0, 0, 3,
+    0, 0, 0, 2, 0, 0, 0, 2, 0, 0, 0, 0, 0, 0, 0, 3,
+];
+
+// Its file of version 1.
+const FIRST: [u8; 48] = [
     0x4E, 0x45, 0x56, 0x4D, 1, 2, 0, 0, 0, 0, 0, 0, 0, 0, 0, 4, 0, 0, 0, 0, 0, 0, 0, 0, 0, 0, 0, 0,
     0, 0, 0, 3, 0, 0, 0, 2, 0, 0, 0, 0, 0, 0, 0, 2, 0, 0, 0, 3,
 ];
@@ -13,76 +19,107 @@ fn writes_and_reads_a_box(rt: HostRuntime) {
     let solid = Solid::of_box(rt.alloc(), &[0, 0], &[2, 3]).expect(&rt, "memory");
     let file = write(rt.alloc(), &solid).expect(&rt, "memory");
     assert_eq!(rt; file.as_slice(), BOX.as_slice());
-    let again = read(rt.alloc(), &BOX).expect(&rt, "a file");
-    assert!(rt; again.same(&solid));
+    for bytes in [BOX.as_slice(), FIRST.as_slice()] {
+        let again = read(rt.alloc(), bytes).expect(&rt, "a file");
+        assert!(rt; again.same(&solid));
+    }
+    let none = Solid::empty(rt.alloc(), 3);
+    let file = write(rt.alloc(), &none).expect(&rt, "memory");
+    assert_eq!(rt; file.as_slice(), b"NEVM\x02\x03\0\0\0\0\0\0".as_slice());
+    let again = read(rt.alloc(), file.as_slice()).expect(&rt, "a file");
+    assert!(rt; again.same(&none));
+}
+
+// Two boxes of three dimensions that share an edge.
+#[test]
+fn reads_what_it_wrote(rt: HostRuntime) {
+    let near = Solid::of_box(rt.alloc(), &[-1, 0, 0], &[1, 2, 3]).expect(&rt, "memory");
+    let far = Solid::of_box(rt.alloc(), &[1, 2, -5], &[4, 3, 1_000_000]).expect(&rt, "memory");
+    let both = xor(rt.alloc(), near.rows(), far.rows()).expect(&rt, "memory");
+    let file = write(rt.alloc(), &both).expect(&rt, "memory");
+    assert_eq!(rt; file.len(), 156);
+    let again = read(rt.alloc(), file.as_slice()).expect(&rt, "a file");
+    assert!(rt; again.same(&both));
 }
 
 #[test]
 fn refuses_headers(rt: HostRuntime) {
-    let table: [(usize, u8, FileError); 7] = [
-        (0, 0x6E, FileError::Head),
-        (4, 2, FileError::Head),
-        (5, 7, FileError::Head),
-        (7, 1, FileError::Head),
-        (5, 3, FileError::Length),
-        (15, 3, FileError::Length),
-        (8, 255, FileError::Length),
+    let table: [(&[u8], usize, u8, FileError); 12] = [
+        (&BOX, 0, 0x6E, FileError::Head),
+        (&BOX, 4, 3, FileError::Head),
+        (&BOX, 5, 7, FileError::Head),
+        (&BOX, 7, 1, FileError::Head),
+        (&BOX, 5, 3, FileError::Length),
+        (&BOX, 11, 1, FileError::Length),
+        (&BOX, 8, 255, FileError::Length),
+        (&FIRST, 4, 0, FileError::Head),
+        (&FIRST, 5, 0, FileError::Head),
+        (&FIRST, 5, 3, FileError::Length),
+        (&FIRST, 15, 3, FileError::Length),
+        (&FIRST, 8, 255, FileError::Length),
     ];
-    for (place, byte, want) in table {
-        let mut bytes = BOX;
-        bytes[place % 48] = byte;
-        assert_eq!(rt; read(rt.alloc(), &bytes).err(), Some(want), "{place}");
+    for (file, place, byte, want) in table {
+        let mut bytes = Vec::from_slice(rt.alloc(), file).expect(&rt, "memory");
+        if let Some(old) = bytes.get_mut(place) {
+            *old = byte;
+        }
+        let answer = read(rt.alloc(), bytes.as_slice()).err();
+        assert_eq!(rt; answer, Some(want), "{place}");
     }
     let none: [u8; 0] = [];
     assert_eq!(rt; read(rt.alloc(), &none).err(), Some(FileError::Head));
-    assert_eq!(rt; read(rt.alloc(), &BOX[..15]).err(), Some(FileError::Head));
-    assert_eq!(rt; read(rt.alloc(), &BOX[..47]).err(), Some(FileError::Length));
+    assert_eq!(rt; read(rt.alloc(), &FIRST[..15]).err(), Some(FileError::Head));
+    assert_eq!(rt; read(rt.alloc(), &FIRST[..47]).err(), Some(FileError::Length));
+    assert_eq!(rt; read(rt.alloc(), &BOX[..7]).err(), Some(FileError::Head));
+    assert_eq!(rt; read(rt.alloc(), &BOX[..8]).err(), Some(FileError::Length));
+    assert_eq!(rt; read(rt.alloc(), &BOX[..43]).err(), Some(FileError::Length));
     let huge = [
         0x4E, 0x45, 0x56, 0x4D, 1, 6, 0, 0, 255, 255, 255, 255, 255, 255, 255, 255,
     ];
     assert_eq!(rt; read(rt.alloc(), &huge).err(), Some(FileError::Length));
 }
 
-// The refusal of a file with these rows of two coordinates.
-fn refusal(alloc: Global, count: u8, rows: &[[i32; 2]]) -> Result<Option<FileError>, AllocError> {
-    let mut bytes = Vec::from_slice(alloc, &BOX[..15])?;
-    bytes.push(count)?;
-    for row in rows {
-        bytes.extend_from_slice(&row[0].to_be_bytes())?;
-        bytes.extend_from_slice(&row[1].to_be_bytes())?;
+// The refusal of the bytes with these numbers behind them.
+fn refusal(
+    alloc: Global,
+    front: &[u8],
+    numbers: &[i32],
+) -> Result<Option<FileError>, AllocError> {
+    let mut bytes = Vec::from_slice(alloc, front)?;
+    for number in numbers {
+        bytes.extend_from_slice(&number.to_be_bytes())?;
     }
     Ok(read(alloc, bytes.as_slice()).err())
 }
 
 #[test]
 fn refuses_rows(rt: HostRuntime) {
-    let table: [(u8, &[[i32; 2]], Option<FileError>); 6] = [
-        (4, &[[0, 0], [0, 3], [2, 0], [2, 3]], None),
-        (3, &[[0, 0], [0, 3], [2, 0]], Some(FileError::Odd(1))),
+    let first = &FIRST[..12];
+    let second = &BOX[..8];
+    let table: [(&[u8], &[i32], Option<FileError>); 16] = [
+        (first, &[4, 0, 0, 0, 3, 2, 0, 2, 3], None),
+        (first, &[3, 0, 0, 0, 3, 2, 0], Some(FileError::Odd(1))),
+        (first, &[5, 0, 0, 0, 3, 2, 0, 2, 3, 2, 3], Some(FileError::Order(4))),
+        (first, &[4, 0, 3, 0, 0, 2, 0, 2, 3], Some(FileError::Order(1))),
+        (first, &[2, 0, 0, 0, 1_073_741_825], Some(FileError::Range(1))),
         (
-            5,
-            &[[0, 0], [0, 3], [2, 0], [2, 3], [2, 3]],
-            Some(FileError::Order(4)),
-        ),
-        (
-            4,
-            &[[0, 3], [0, 0], [2, 0], [2, 3]],
-            Some(FileError::Order(1)),
-        ),
-        (
-            4,
-            &[
-                [-1_073_741_824, -1],
-                [-1_073_741_824, 0],
-                [1_073_741_824, -1],
-                [1_073_741_824, 0],
-            ],
+            second,
+            &[2, -1_073_741_824, 2, -1, 0, 1_073_741_824, 2, -1, 0],
             None,
         ),
-        (2, &[[0, 0], [0, 1_073_741_825]], Some(FileError::Range(1))),
+        (second, &[3, 0, 1, 0, 0, 1, 3, 2, 2, 0, 3], Some(FileError::Order(1))),
+        (second, &[3, 0, 2, 0, 3, 1, 0, 2, 2, 0, 3], Some(FileError::Empty(2))),
+        (second, &[1, 0, 2, 0, 3], Some(FileError::Odd(1))),
+        (second, &[2, 0, 2, 3, 0, 2, 2, 0, 3], Some(FileError::Order(1))),
+        (second, &[2, 0, 2, 0, 3, 2, 2, 0, 0], Some(FileError::Order(3))),
+        (second, &[2, 2, 2, 0, 3, 0, 2, 0, 3], Some(FileError::Order(2))),
+        (second, &[2, 0, 1, 0, 2, 1, 0], Some(FileError::Odd(2))),
+        (second, &[2, 0, 2, 3, 0, 2, 2, 0, 1_073_741_825], Some(FileError::Range(3))),
+        (second, &[1, 0, 0], Some(FileError::Empty(0))),
+        (second, &[0, 0], Some(FileError::Length)),
     ];
-    for (count, rows, want) in table {
-        let answer = refusal(rt.alloc(), count, rows).expect(&rt, "memory");
-        assert_eq!(rt; answer, want, "{rows:?}");
+    for (front, numbers, want) in table {
+        let answer = refusal(rt.alloc(), front, numbers).expect(&rt, "memory");
+        assert_eq!(rt; answer, want, "{numbers:?}");
     }
 }
