@@ -1,2 +1,4 @@
 pub mod Reading
+pub mod Scanning
+pub mod Wholes
 pub mod Writing

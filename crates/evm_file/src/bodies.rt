@@ -30,7 +30,7 @@ fn append_field(out: &mut Vec<u8>, at: i32) -> Result<(), AllocError>
 
 /// The number of couplets that are left to a walk.
 fn count_couplets(walk: Walk<'_>) -> u32
-    requires { length walk.entry.left < 2 ^ 32 }
+    requires { length walk.left < 2 ^ 32 }
     ensures { result ≡ length walk.entry.left }
 {
     let mut ahead = walk;

@@ -1,11 +1,12 @@
 //! Reads files of version 2: first whether the bytes are one whole body, and what is noted of its counts and heights, which takes
 //! no memory; then its rows.
-ghost use Rattle.std.specs.Prelude.{◌≡◌, ◌≢◌, ◌+◌, ◌*◌, ◌<◌, ◌≤◌, ◌^◌, ◌++◌, ◌==◌, ℕ, ℤ, List, [], ◌∷◌, Some, None, length, take, drop, IfOk, IfSome, MatchOption, MatchResult};
-ghost use Rattle.evm_rows.specs.Rows.{flat_of};
-ghost use Rattle.evm_formats.specs.Nested.{Reading, noted, falls, read_body, whole_body, unread};
+ghost use Rattle.std.specs.Prelude.{◌≡◌, ◌+◌, ◌%◌, ◌<◌, ◌≤◌, ◌^◌, ◌++◌, ◌==◌, ◌⊎◌, ℕ, ℤ, List, [], ◌∷◌, Some, None, length, IfOk, IfSome, MatchOption};
+ghost use Rattle.byteorder.specs.Endian.{big_number};
+ghost use Rattle.evm_rows.specs.Rows.{flat_of, rows_of};
+ghost use Rattle.evm_formats.specs.Nested.{Reading, noted, falls, read_body, whole_body};
 ghost use Rattle.evm_formats.specs.File.{IsSecond};
 ghost use Rattle.evm_file.specs.Reading.{Answers, IsSure};
-ghost use Rattle.evm_file.specs.Scanning.{IsTally, front_of};
+ghost use Rattle.evm_file.specs.Scanning.{IsTally, RefusesFallen, front_of};
 
 use crate::HEADER;
 use byteorder::{BigEndian, ByteOrder};
@@ -111,7 +112,10 @@ fn scan_body(bytes: &[u8], dim: usize, tally: Tally) -> Option<(Tally, &[u8])>
         }
         let (field, below) = rest.split_at(4);
         let height = BigEndian::read_i32(field);
-        let (next, after) = scan_body(below, dim - 1, so_far.after_height(last, height))?;
+        let inner = so_far.after_height(last, height);
+        let Some((next, after)) = scan_body(below, dim - 1, inner) else {
+            return None;
+        };
         so_far = next;
         rest = after;
         last = Some(height);
@@ -131,8 +135,10 @@ fn scan(bytes: &[u8], dim: usize) -> Option<Tally>
         gap: None,
         fall: None,
     };
-    let (all, rest) = scan_body(bytes, dim, tally)?;
-    if rest.len() == 0 { Some(all) } else { None }
+    match scan_body(bytes, dim, tally) {
+        Some((all, rest)) => { if rest.len() == 0 { Some(all) } else { None } }
+        None => None,
+    }
 }
 
 /// The heights that lead to a body: the first `depth` places.
@@ -200,6 +206,50 @@ fn append_rows<'a>(
     Ok(rest)
 }
 
+// The rows of a body of dimension `dim`, one after another; there are `count` of them.
+fn rows_of_body(
+    alloc: Global,
+    bytes: &[u8],
+    dim: usize,
+    count: usize,
+) -> Result<Vec<i32>, AllocError>
+    requires { dim ≤ 6 }
+    ensures { (s : Reading) → whole_body dim bytes.now ≡ Some s
+        → IfOk result (λ v. v.items ≡ flat_of s.rows) }
+{
+    let mut flat = Vec::with_capacity(alloc, count.saturating_mul(dim))?;
+    append_rows(bytes, dim, Front::start(), &mut flat)?;
+    Ok(flat)
+}
+
+// How many rows stood before the first count of 0, if there is one but the outermost.
+fn inner_gap(body: &[u8], gap: Option<usize>) -> Option<usize>
+    requires { 4 ≤ length body.now }
+    ensures { MatchOption result ((big_number 4 body.now ≡ 0) ⊎ (gap ≡ None))
+        (λ k. (0 < big_number 4 body.now) × (gap ≡ Some k)) }
+{
+    if BigEndian::read_u32(body) == 0 {
+        return None;
+    }
+    gap
+}
+
+// The refusal of rows of which `row` is the first that a number leads to that is not greater than the one before it in its body.
+fn refuse(alloc: Global, dim: usize, flat: Vec<i32>, row: usize) -> FileError
+    requires low { 0 < dim }
+    requires high { dim ≤ 6 }
+    requires whole { length flat.items % dim ≡ 0 }
+    ensures { RefusesFallen dim (rows_of flat.items dim 0) row result }
+{
+    match Solid::check(alloc, dim, flat) {
+        Err(RowError::Range(outside)) => FileError::Range(outside),
+        Err(RowError::NoMemory) => FileError::NoMemory,
+        Err(RowError::Order(_)) => FileError::Order(row),
+        Err(RowError::Odd(_)) => FileError::Order(row),
+        Ok(_) => FileError::Order(row),
+    }
+}
+
 /// The solid of bytes with a header of version 2, or the first refusal after it.
 pub fn read_nested(alloc: Global, bytes: &[u8]) -> Result<Solid, FileError>
     requires { IsSecond bytes.now }
@@ -211,24 +261,15 @@ pub fn read_nested(alloc: Global, bytes: &[u8]) -> Result<Solid, FileError>
     let Some(tally) = scan(body, dim) else {
         return Err(FileError::Length);
     };
-    if let Some(row) = tally.gap {
-        if BigEndian::read_u32(body) != 0 {
-            return Err(FileError::Empty(row));
-        }
+    if let Some(row) = inner_gap(body, tally.gap) {
+        return Err(FileError::Empty(row));
     }
-    let mut flat = Vec::with_capacity(alloc, tally.rows.saturating_mul(dim))?;
-    append_rows(body, dim, Front::start(), &mut flat)?;
+    let flat = rows_of_body(alloc, body, dim, tally.rows)?;
+    if let Some(row) = tally.fall {
+        return Err(refuse(alloc, dim, flat, row));
+    }
     match Solid::check(alloc, dim, flat) {
-        Err(RowError::Range(row)) => Err(FileError::Range(row)),
-        Err(RowError::NoMemory) => Err(FileError::NoMemory),
-        Err(RowError::Order(row)) => Err(FileError::Order(tally.fall.unwrap_or(row))),
-        Err(RowError::Odd(axis)) => match tally.fall {
-            Some(row) => Err(FileError::Order(row)),
-            None => Err(FileError::Odd(axis)),
-        },
-        Ok(solid) => match tally.fall {
-            Some(row) => Err(FileError::Order(row)),
-            None => Ok(solid),
-        },
+        Ok(solid) => Ok(solid),
+        Err(e) => Err(FileError::from(e)),
     }
 }

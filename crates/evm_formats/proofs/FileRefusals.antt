@@ -53,7 +53,7 @@ listed_unique bytes NoMemory f r s = absurd r
 
 -- ---- version 2
 
-filled_not : (outer k : ℕ) (s : Reading) → (0 < outer) × (s.gap ≡ Some k) → IsFilled outer s → ⊥
+pub filled_not : (outer k : ℕ) (s : Reading) → (0 < outer) × (s.gap ≡ Some k) → IsFilled outer s → ⊥
 filled_not outer k s r f = ⊎_elim (λ (z : outer ≡ 0). let l = r.0 in omega (arith, l, z)) (λ (g : s.gap ≡ None). let bad : Some k ≡ None = sym r.1 ∙ g in cc) f
 
 out_not : (n : ℕ) (V : List (List ℤ)) (k : ℕ) → list_all (is_point n) V ≡ true → IsFirstOut n V k → ⊥
