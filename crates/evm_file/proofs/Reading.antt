@@ -1,23 +1,24 @@
 -- What the reader of version 1 reads, and what the answers of both readers owe.
 use Rattle.std.proofs.Common.{◌≡◌, ℕ, ◌^◌, ◌<◌, ◌≤◌, ◌++◌, [], ◌∷◌, take, drop, List, ℤ, length, sym, ap, ap₂, ◌∙◌, ◌⊎◌, inl, inr, ⊎_elim, Result, Ok, Err, append_assoc, arith, w32, slice_index, subst}
+use Rattle.std.specs.Prelude.{IfOk, ◌↔◌}
 use Rattle.std.specs.Int.{cast_signed}
 use Rattle.std.specs.Result.{IsErrOf}
 use Rattle.byteorder.specs.Endian.{big_number}
 use Rattle.byteorder.specs.Numbers.{big_from-take}
-use Rattle.evm_rows.specs.Rows.{Vertices, IsSolid}
+use Rattle.evm_rows.specs.Rows.{Vertices, IsSolid, cells_of}
 use Rattle.evm_rows.specs.Check.{IsRefusal}
 use Rattle.evm_rows.specs.declared.check.RowError.{RowError}
 use Rattle.evm_rows.specs.declared.check.RowError.TheVariants as rows
 use Rattle.evm_formats.specs.FirstFile.{first_file_bytes, HasLength, IsFirst, stated_dim, listed_rows, numbers}
-use Rattle.evm_formats.specs.File.{file_bytes, IsFileOf, IsFileRefusal, ListedRefusal, of_row}
+use Rattle.evm_formats.specs.File.{file_bytes, IsSecond, IsFileOf, IsFileOfCells, IsFileRefusal, of_row}
 use Rattle.evm_formats.specs.declared.file.FileError.{FileError}
-use Rattle.evm_formats.specs.declared.file.FileError.TheVariants.{NoMemory}
+use Rattle.evm_formats.specs.declared.file.FileError.TheVariants.{Head, Empty, NoMemory}
 use Rattle.evm_cells.specs.Vertices.{IsVertexList}
 use Rattle.evm_formats.proofs.Fields.{numbers-step}
 use Rattle.evm_formats.proofs.Frames.{file_is, stated}
-use Rattle.evm_formats.proofs.FileLaws.{told_apart, first_apart, versions, vertices_of_cells, solid_of_cells, cells_again, on_vertices}
+use Rattle.evm_formats.proofs.FileLaws.{told_apart, first_apart, versions, vertices_of_cells, solid_of_cells, cells_again, on_cells, on_vertices}
 use Rattle.evm_formats.proofs.FileRefusals.{file_unique, file_denies}
-use Rattle.evm_file.specs.Reading.{FindsSolid, FindsCells, FindsRefusal, Answers}
+use Rattle.evm_file.specs.Reading.{FindsSolid, FindsCells, FindsRefusal, Answers, IsSure}
 
 -- one more field is read
 pub read_more : (body rest front after : List ℕ) (out new : List ℤ) (x : ℤ) → 4 ≤ length rest
@@ -94,3 +95,14 @@ listed_ok bytes v first long small e vertices =
       file = inr (file_is bytes first long small ∙ ap first_file_bytes (sym e));
       refusal = tt;
     }
+
+pub cells_answered : (r : Result Vertices FileError) (bytes : List ℕ) → Answers r bytes → IfOk r (λ s. IsFileOfCells bytes s.dim (cells_of s))
+cells_answered (Ok t) bytes a = let s = a.solid in on_cells bytes t s.vertices a.file
+cells_answered (Err e) bytes a = tt
+
+pub empty_exactly : (r : Result Vertices FileError) (bytes : List ℕ) → Answers r bytes → IsSure r bytes → (k : ℕ) → IsErrOf r (Empty k) ↔ IsFileRefusal bytes (Empty k)
+empty_exactly r bytes a s k = (λ q. is_refused r bytes (Empty k) a (λ m. cc) q, λ q. s.empty k q)
+
+-- no header is the answer where there is none
+pub headless : (bytes : List ℕ) → (IsSecond bytes → ⊥) → (IsFirst bytes → ⊥) → Answers (Err Head) bytes
+headless bytes a b = record { solid = tt; file = tt; refusal = inr (λ h. ⊎_elim (λ (p : IsFirst bytes). b p) (λ (p : IsSecond bytes). a p) h) }

@@ -205,3 +205,32 @@ nested_ok bytes t v w small o d r vertices =
       file = inl (second_is bytes t w.second small w.read w.filled o along ∙ ap file_bytes (sym same));
       refusal = tt;
     }
+
+-- ---- the steps of the reader
+
+pub is_whole : (bytes rest : List ℕ) (n : ℕ) (t : Reading) (gap : Option ℕ) → IsSecond bytes → n ≡ stated_dim bytes → rest ≡ drop 8 bytes → whole_body n rest ≡ Some t → t.gap ≡ gap
+    → (big_number 4 rest ≡ 0) ⊎ (gap ≡ None) → IsWhole bytes t
+is_whole bytes rest n t gap s d r e g f = record {
+  second = s;
+  read = ap₂ whole_body (sym d) (sym r) ∙ e;
+  filled = ⊎_elim (λ (z : big_number 4 rest ≡ 0). inl (ap (big_number 4) (sym r) ∙ z)) (λ (o : gap ≡ None). inr (g ∙ o)) f;
+}
+
+pub positive : (bytes : List ℕ) (n : ℕ) → IsSecond bytes → n ≡ stated_dim bytes → 0 < n
+positive bytes n s d = let p = s.some in omega (arith, p, d)
+
+pub nested_refuse : (bytes : List ℕ) (t : Reading) (n k : ℕ) (V : List (List ℤ)) (f : FileError) → IsWhole bytes t → t.fall ≡ Some k → n ≡ stated_dim bytes → V ≡ t.rows
+    → RefusesFallen n V k f → Answers (Err f) bytes
+nested_refuse bytes t n k V f w o d r h =
+    answer_refusal bytes f (nested_fallen bytes t k f w o
+    (subst (λ (m : ℕ). RefusesFallen m t.rows k f) d (subst (λ (W : List (List ℤ)). RefusesFallen n W k f) r h)))
+
+pub nested_error : (bytes : List ℕ) (t : Reading) (n : ℕ) (V : List (List ℤ)) (e : RowError) (f : FileError) → IsWhole bytes t → AreSmall bytes → t.fall ≡ None → n ≡ stated_dim bytes → V ≡ t.rows
+    → f ≡ of_row e → (e ≡ rows.NoMemory) ⊎ IsRefusal n V e → Answers (Err f) bytes
+nested_error bytes t n V e f w small o d r q h =
+    answer_refusal bytes f (nested_err bytes t e f w small o q
+    (subst (λ (m : ℕ). (e ≡ rows.NoMemory) ⊎ IsRefusal m t.rows e) d (subst (λ (W : List (List ℤ)). (e ≡ rows.NoMemory) ⊎ IsRefusal n W e) r h)))
+
+pub no_number : (o : Option ℕ) → ((k : ℕ) → o ≡ Some k → ⊥) → o ≡ None
+no_number None f = refl
+no_number (Some k) f = absurd (f k refl)

@@ -3,14 +3,16 @@ use Rattle.std.proofs.Common.{◌≡◌, ℕ, suc, ◌+◌, ◌-◌, ◌^◌, �
 use Rattle.std.specs.List.{AllByRecursion}
 use Rattle.byteorder.specs.Endian.{big_bytes}
 use Rattle.evm_cells.specs.Vertices.{IsVertexList}
-use Rattle.evm_rows.specs.Rows.{ascends}
+use Rattle.evm_rows.specs.Rows.{Vertices, ascends}
 use Rattle.evm_rows.proofs.Bridge.{wide-points, ascends_from}
 use Rattle.evm_sections.specs.Couplets.{couplets_of, joined, AreSingle, first_height, rest_of}
 use Rattle.evm_sections.proofs.Rising.{joined-couplets_of}
 use Rattle.evm_sections.proofs.Single.{couplets_of-single}
 use Rattle.evm_formats.specs.FirstFile.{field}
 use Rattle.evm_formats.specs.RowBodies.{items, row_body}
+use Rattle.evm_formats.specs.File.{head_bytes, file_of_cells, file_bytes}
 use Rattle.evm_formats.proofs.Bodies.{few_couplets}
+use Rattle.evm_formats.proofs.Nesting.{row_body-cells}
 
 -- ---- lines
 
@@ -75,3 +77,11 @@ body_more n k d h V left next out mid new whole l e f p q w =
     ∙ ap (λ (xs : List ℕ). xs ++ items (row_body n) next) (q ∙ ap₂ (λ (xs : List ℕ) (j : ℕ). xs ++ row_body j V) p f ∙ append_assoc out (field h) (row_body n V))
     ∙ append_assoc out (field h ++ row_body n V) (items (row_body n) next)
     ∙ ap (λ (cs : List (ℤ × List (List ℤ))). out ++ items (row_body n) cs) (sym l) ∙ w
+
+-- a header and the body of the rows
+pub written : (v : Vertices) (n m : ℕ) (V : List (List ℤ)) (start middle new : List ℕ) → IsVertexList v.dim v.rows → start ≡ head_bytes n → n ≡ v.dim → middle ≡ start → m ≡ v.dim → V ≡ v.rows
+    → new ≡ middle ++ row_body m V → new ≡ file_bytes v
+unfolding file_of_cells
+written v n m V start middle new s h d q e f r =
+    r ∙ ap₂ (λ (xs : List ℕ) (k : ℕ). xs ++ row_body k V) (q ∙ h ∙ ap head_bytes d) e ∙ ap (λ (W : List (List ℤ)). head_bytes v.dim ++ row_body v.dim W) f
+    ∙ ap (λ (xs : List ℕ). head_bytes v.dim ++ xs) (row_body-cells v.dim v.rows s)

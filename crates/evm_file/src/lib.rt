@@ -51,7 +51,8 @@ fn is_first(bytes: &[u8]) -> bool
 
 // Whether the bytes begin with a header of version 2.
 fn is_second(bytes: &[u8]) -> bool
-    ensures { IsTrue result ↔ IsSecond bytes.now }
+    ensures is { IsTrue result ↔ IsSecond bytes.now }
+    ensures small { length bytes.now < 2 ^ 64 }
 {
     HEADER <= bytes.len()
         && bytes[0] == b'N'
