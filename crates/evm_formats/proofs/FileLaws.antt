@@ -1,6 +1,6 @@
 -- Files tell solids and cell sets apart.
 use Rattle.std.proofs.Common.{◌≡◌, ℕ, inl, inr, List, [], ◌∷◌, ◌++◌, slice_index, ℤ, refl, sym, ap, ap₂, ◌∙◌, arith, ⊎_elim}
-use Rattle.byteorder.specs.Endian.{big_bytes}
+use Rattle.std.specs.Prelude.{◌==◌, if◌then◌else◌}
 use Rattle.evm_cells.proofs.Examples.{box_of_six}
 use Rattle.evm_cells.specs.Examples.{plane}
 use Rattle.evm_cells.specs.Vertices.{evm, IsVertexList}
@@ -12,7 +12,7 @@ use Rattle.evm_sections.specs.Couplets.{couplets_of}
 use Rattle.evm_formats.specs.FirstFile.{first_file_bytes, first_file_of_cells, stated_dim, listed_rows}
 use Rattle.evm_formats.specs.Nested.{body}
 use Rattle.evm_formats.specs.RowBodies.{row_body}
-use Rattle.evm_formats.specs.File.{file_bytes, file_of_cells, stated_rows, head_bytes, six_cells, IsSolidCells, IsFileOf, IsFileOfCells, TellsSolids, TellsCells, VersionsDiffer, FilesByStatement, FileOfSix, FirstFileOfSix}
+use Rattle.evm_formats.specs.File.{file_bytes, file_of_cells, stated_rows, reading, rows_in, head_bytes, six_cells, IsSolidCells, IsFileOf, IsFileOfCells, TellsSolids, TellsCells, VersionsDiffer, FilesByStatement, FileOfSix, FirstFileOfSix}
 use Rattle.evm_formats.proofs.Bodies.{row_body-evm}
 use Rattle.evm_formats.proofs.Frames.{file_is, rows_of_first, dim_of_first, states, stated}
 use Rattle.evm_formats.proofs.Nesting.{rows_of_file, dim_of_file, nests, second_is}
@@ -101,3 +101,26 @@ on_cells bytes v s f =
 pub on_vertices : (bytes : List ℕ) (n : ℕ) (S : List (List ℤ)) → IsSolidCells n S → IsFileOfCells bytes n S → IsFileOf bytes (vertices_of_cells n S)
 on_vertices bytes n S s f =
     ⊎_elim (λ (e : bytes ≡ file_of_cells n S). inl (e ∙ file_of_vertices n S s)) (λ (e : bytes ≡ first_file_of_cells n S). inr e) f
+
+-- ---- either version
+
+is_one : (v : Vertices) → slice_index (first_file_bytes v) 4 ≡ 1
+unfolding first_file_bytes
+is_one v = refl
+
+version_one : (m : ℕ) (V W : List (List ℤ)) → m ≡ 1 → (if m == 1 then V else W) ≡ V
+version_one m V W e = rw e refl
+
+first_rows : (v : Vertices) → IsSolid v → stated_rows (first_file_bytes v) ≡ v.rows
+first_rows v s = version_one (slice_index (first_file_bytes v) 4) (listed_rows (first_file_bytes v)) (rows_in (reading (first_file_bytes v))) (is_one v) ∙ rows_of_first v s
+
+-- a file of a solid tells its rows
+pub rows_of_either : (bytes : List ℕ) (v : Vertices) → IsSolid v → IsFileOf bytes v → stated_rows bytes ≡ v.rows
+rows_of_either bytes v s f =
+    ⊎_elim (λ (e : bytes ≡ file_bytes v). ap (λ (xs : List ℕ). stated_rows xs) e ∙ rows_of_file v s)
+    (λ (e : bytes ≡ first_file_bytes v). ap (λ (xs : List ℕ). stated_rows xs) e ∙ first_rows v s) f
+
+-- and its dimension
+pub dim_of_either : (bytes : List ℕ) (v : Vertices) → IsFileOf bytes v → stated_dim bytes ≡ v.dim
+dim_of_either bytes v f =
+    ⊎_elim (λ (e : bytes ≡ file_bytes v). ap stated_dim e ∙ dim_of_file v) (λ (e : bytes ≡ first_file_bytes v). ap stated_dim e ∙ dim_of_first v) f

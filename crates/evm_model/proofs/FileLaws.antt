@@ -1,5 +1,5 @@
 -- Files: the figures that bytes state, and the bytes that figures are saved in.
-use Rattle.std.proofs.Common.{◌≡◌, ℕ, ◌≤◌, Bool, true, false, cond, List, Option, Some, None, Result, Ok, Err, ℤ, pos, ◌⊎◌, inl, inr, refl, sym, ap, ◌∙◌, subst, bytes_eq, arith, nat_le, nat_abs, IfOk}
+use Rattle.std.proofs.Common.{◌≡◌, ℕ, ◌≤◌, Bool, true, false, cond, List, Option, Some, None, Result, Ok, Err, ℤ, pos, ◌⊎◌, inl, inr, refl, sym, ap, ◌∙◌, subst, bytes_eq, arith, nat_le, nat_abs, IfOk, ⊎_elim, ◌||◌}
 use Rattle.std.specs.Prelude.{◌↔◌, ◌==◌}
 use Rattle.std.proofs.lemmas.Bool.{eqb-false}
 use Rattle.std.proofs.lemmas.Bool.Decides.{Decides-eqb, nat_tests}
@@ -10,9 +10,9 @@ use Rattle.evm_cells.specs.Unions.{Ends}
 use Rattle.evm_cells.proofs.Unions.{cell_set-union}
 use Rattle.evm_cells.proofs.Core.{cells-evm}
 use Rattle.evm_cells.proofs.Universe.{cell_set-cells}
-use Rattle.evm_formats.specs.File.{file_of_cells, stated_rows, IsSolidCells}
-use Rattle.evm_formats.proofs.Frames.{rows_of_file}
-use Rattle.evm_formats.proofs.FileLaws.{vertices_of_cells, solid_of_cells, cell_sets}
+use Rattle.evm_formats.specs.FirstFile.{first_file_of_cells}
+use Rattle.evm_formats.specs.File.{file_bytes, file_of_cells, stated_rows, IsSolidCells, IsFileOfCells}
+use Rattle.evm_formats.proofs.FileLaws.{vertices_of_cells, solid_of_cells, cell_sets, file_of_vertices, on_vertices, rows_of_either, told_apart as files_apart}
 use Rattle.evm_formats.specs.BoxFile.{file_cells, union_or_refusal, boxes_of_file}
 use Rattle.evm_formats.specs.declared.boxes.BoxFileError.{BoxFileError}
 use Rattle.evm_formats.specs.Pgm.{pgm_cells}
@@ -24,7 +24,7 @@ use Rattle.evm_script.specs.declared.files.LoadForm.{LoadForm}
 use Rattle.evm_script.specs.declared.files.LoadForm.TheVariants as forms
 use Rattle.evm_script.specs.declared.files.SaveForm.TheVariants as saves
 use Rattle.evm_model.specs.Figures.{Figure, nothing}
-use Rattle.evm_model.specs.Files.{evm_figure, figure_stated, form_fits, figure_in, figure_fetched, or_nothing, bytes_in}
+use Rattle.evm_model.specs.Files.{is_evm_file, evm_figure, figure_stated, form_fits, figure_in, figure_fetched, or_nothing, bytes_in}
 use Rattle.evm_model.specs.Scene.{Scene, stands, dim_of, value, is_dim, IsWell}
 use Rattle.evm_model.proofs.Names.{by_test, same_name, equal_names}
 use Rattle.evm_model.proofs.WellScenes.{solid_dim, value_dim, value_cells}
@@ -73,7 +73,7 @@ row_figure n bytes = record { dim = n; cells = cells n (stated_rows bytes) }
 
 -- the bytes are its file
 abbrev pub is_its_file : ℕ → List ℕ → Bool
-is_its_file n bytes = bytes_eq bytes (file_of_cells n (cells n (stated_rows bytes)))
+is_its_file n bytes = is_evm_file bytes n (cells n (stated_rows bytes))
 
 evm_set : (n : ℕ) (bytes : List ℕ) → IfCells n (evm_figure n bytes)
 evm_set n bytes =
@@ -109,7 +109,7 @@ one_figure a b d c = λ i. record { dim = d i; cells = c i }
 pub told_apart : (a b : Figure) → IsSolidCells a.dim a.cells → IsSolidCells b.dim b.cells → (bytes_in saves.Evm a ≡ bytes_in saves.Evm b) ↔ (a ≡ b)
 unfolding bytes_in
 told_apart a b s t =
-    let law = cell_sets a.dim b.dim a.cells b.cells s t in
+    let law = cell_sets file_bytes file_of_cells files_apart file_of_vertices a.dim b.dim a.cells b.cells s t in
     (λ e. one_figure a b (law.0 e).0 (law.0 e).1, λ e. ap (λ (x : Figure). file_of_cells x.dim x.cells) e)
 
 -- the value of a name that stands is a solid
@@ -131,27 +131,48 @@ some_same a b e = cc
 none_some : (a : Figure) → None ≡ Some a → ⊥
 none_some a e = cc
 
-loads_saved : (a : Figure) (bytes : List ℕ) → IsSolidCells a.dim a.cells → bytes ≡ file_of_cells a.dim a.cells → evm_figure a.dim bytes ≡ Some a
-loads_saved a bytes s e =
-    ap (λ (b : Bool). cond b (Some (row_figure a.dim bytes)) None) (equal_names bytes (file_of_cells a.dim (cells a.dim (stated_rows bytes))) (e ∙ ap (file_of_cells a.dim) (sym again)))
+either_true : (p q : Bool) → (p || q) ≡ true → (p ≡ true) ⊎ (q ≡ true)
+either_true true q e = inl refl
+either_true false q e = inr e
+
+true_either : (p q : Bool) → (p ≡ true) ⊎ (q ≡ true) → (p || q) ≡ true
+true_either true q e = refl
+true_either false q e = ⊎_elim (λ (h : false ≡ true). let bad : false ≡ true = h in cc) (λ (h : q ≡ true). h) e
+
+-- bytes that pass the test are a file of the cells, of either version
+pub tested_file : (bytes : List ℕ) (n : ℕ) (S : List (List ℤ)) → is_evm_file bytes n S ≡ true → IsFileOfCells bytes n S
+tested_file bytes n S e =
+    ⊎_elim (λ (h : bytes_eq bytes (file_of_cells n S) ≡ true). inl (same_name bytes (file_of_cells n S) h))
+    (λ (h : bytes_eq bytes (first_file_of_cells n S) ≡ true). inr (same_name bytes (first_file_of_cells n S) h))
+    (either_true (bytes_eq bytes (file_of_cells n S)) (bytes_eq bytes (first_file_of_cells n S)) e)
+
+file_tested : (bytes : List ℕ) (n : ℕ) (S : List (List ℤ)) → IsFileOfCells bytes n S → is_evm_file bytes n S ≡ true
+file_tested bytes n S f =
+    true_either (bytes_eq bytes (file_of_cells n S)) (bytes_eq bytes (first_file_of_cells n S))
+    (⊎_elim (λ (e : bytes ≡ file_of_cells n S). inl (equal_names bytes (file_of_cells n S) e)) (λ (e : bytes ≡ first_file_of_cells n S). inr (equal_names bytes (first_file_of_cells n S) e)) f)
+
+-- a file of a solid states it
+pub loads_saved : (a : Figure) (bytes : List ℕ) → IsSolidCells a.dim a.cells → IsFileOfCells bytes a.dim a.cells → evm_figure a.dim bytes ≡ Some a
+loads_saved a bytes s f =
+    ap (λ (b : Bool). cond b (Some (row_figure a.dim bytes)) None) (file_tested bytes a.dim (cells a.dim (stated_rows bytes)) (subst (λ (S : List (List ℤ)). IsFileOfCells bytes a.dim S) (sym again) f))
     ∙ ap (λ (c : List (List ℤ)). Some (record { dim = a.dim; cells = c })) again
   where
     again : cells a.dim (stated_rows bytes) ≡ a.cells
     again =
-        ap (λ (x : List ℕ). cells a.dim (stated_rows x)) e
-        ∙ ap (cells a.dim) (rows_of_file (vertices_of_cells a.dim a.cells) (solid_of_cells a.dim a.cells s))
+        ap (cells a.dim) (rows_of_either bytes (vertices_of_cells a.dim a.cells) (solid_of_cells a.dim a.cells s) (on_vertices bytes a.dim a.cells s f))
         ∙ cells-evm a.dim a.cells s.cells
 
-saved_loads : (a : Figure) (bytes : List ℕ) → evm_figure a.dim bytes ≡ Some a → bytes ≡ file_of_cells a.dim a.cells
+saved_loads : (a : Figure) (bytes : List ℕ) → evm_figure a.dim bytes ≡ Some a → IsFileOfCells bytes a.dim a.cells
 saved_loads a bytes = by (is_its_file a.dim bytes) refl
   where
-    by : (b : Bool) → is_its_file a.dim bytes ≡ b → cond b (Some (row_figure a.dim bytes)) None ≡ Some a → bytes ≡ file_of_cells a.dim a.cells
+    by : (b : Bool) → is_its_file a.dim bytes ≡ b → cond b (Some (row_figure a.dim bytes)) None ≡ Some a → IsFileOfCells bytes a.dim a.cells
     by true q e =
-        same_name bytes (file_of_cells a.dim (cells a.dim (stated_rows bytes))) q
-        ∙ ap (λ (x : Figure). file_of_cells x.dim x.cells) (some_same (row_figure a.dim bytes) a e)
+        subst (λ (x : Figure). IsFileOfCells bytes a.dim x.cells) (some_same (row_figure a.dim bytes) a e)
+        (tested_file bytes a.dim (cells a.dim (stated_rows bytes)) q)
     by false q e = absurd (none_some a e)
 
-pub loaded_is_saved : (bytes : List ℕ) (a : Figure) → IsSolidCells a.dim a.cells → (figure_in forms.Evm a.dim bytes ≡ Some a) ↔ (bytes ≡ bytes_in saves.Evm a)
+pub loaded_is_saved : (bytes : List ℕ) (a : Figure) → IsSolidCells a.dim a.cells
+    → (figure_in forms.Evm a.dim bytes ≡ Some a) ↔ ((bytes ≡ bytes_in saves.Evm a) ⊎ (bytes ≡ first_file_of_cells a.dim a.cells))
 unfolding figure_in bytes_in
 loaded_is_saved bytes a s = (saved_loads a bytes, loads_saved a bytes s)
 

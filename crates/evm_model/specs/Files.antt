@@ -1,6 +1,7 @@
 -- Files by name, and what the bytes of a file state in the form that a command names.
-use Rattle.std.specs.Prelude.{ℕ, ◌==◌, nat_abs, nat_le, Bool, true, List, Option, None, Some, Result, Ok, Err, ℤ, pos, int_le, ◌&&◌, bytes_eq, if◌then◌else◌}
+use Rattle.std.specs.Prelude.{ℕ, ◌==◌, nat_abs, nat_le, Bool, true, List, Option, None, Some, Result, Ok, Err, ℤ, pos, int_le, ◌&&◌, ◌||◌, bytes_eq, if◌then◌else◌}
 use Rattle.evm_cells.specs.Vertices.{cells}
+use Rattle.evm_formats.specs.FirstFile.{first_file_of_cells}
 use Rattle.evm_formats.specs.File.{file_of_cells, stated_rows}
 use Rattle.evm_formats.specs.BoxFile as boxes
 use Rattle.evm_formats.specs.BoxText.{box_file}
@@ -22,10 +23,14 @@ Fetches = List ℕ → Option (List ℕ)
 abbrev pub no_files : Fetches
 no_files name = None
 
+-- the bytes are an EVM file of these cells: the one that is written, or the one of version 1
+abbrev pub is_evm_file : List ℕ → ℕ → List (List ℤ) → Bool
+is_evm_file bytes n S = bytes_eq bytes (file_of_cells n S) || bytes_eq bytes (first_file_of_cells n S)
+
 -- the figure of dimension n whose EVM file the bytes are: its cells are those of the rows that they state
 abbrev pub evm_figure : ℕ → List ℕ → Option Figure
 evm_figure n bytes =
-    if bytes_eq bytes (file_of_cells n (cells n (stated_rows bytes)))
+    if is_evm_file bytes n (cells n (stated_rows bytes))
     then Some (record { dim = n; cells = cells n (stated_rows bytes) })
     else None
 

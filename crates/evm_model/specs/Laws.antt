@@ -8,6 +8,7 @@ use Rattle.evm_text.specs.Lines.{lines}
 use Rattle.evm_script.specs.Line.{command}
 use Rattle.evm_script.specs.declared.command.Command.{Command}
 use Rattle.evm_script.specs.declared.command.Command.TheVariants as commands
+use Rattle.evm_formats.specs.FirstFile.{first_file_of_cells}
 use Rattle.evm_formats.specs.File.{IsSolidCells}
 use Rattle.evm_script.specs.declared.files.LoadForm.{LoadForm}
 use Rattle.evm_script.specs.declared.files.LoadForm.TheVariants as forms
@@ -320,10 +321,11 @@ SavedBytesTellNames = (scene : Scene) (x y : List ℕ) → IsWell scene → stan
     → (bytes_in saves.Evm (value scene x) ≡ bytes_in saves.Evm (value scene y))
     ↔ ((value scene x).cells ≡ (value scene y).cells)
 
--- bytes state a solid as an EVM file exactly if it is saved in these bytes
+-- bytes state a solid as an EVM file exactly if it is saved in these bytes, or they are its file of version 1
 abbrev pub SavedBytesLoad : Type 0
 SavedBytesLoad = (bytes : List ℕ) (a : Figure) → IsSolidCells a.dim a.cells
-    → (figure_in forms.Evm a.dim bytes ≡ Some a) ↔ (bytes ≡ bytes_in saves.Evm a)
+    → (figure_in forms.Evm a.dim bytes ≡ Some a)
+    ↔ ((bytes ≡ bytes_in saves.Evm a) ⊎ (bytes ≡ first_file_of_cells a.dim a.cells))
 
 -- the box file in which a solid is saved states this solid
 abbrev pub SavedBoxesLoad : Type 0

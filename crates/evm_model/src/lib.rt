@@ -146,9 +146,9 @@ pub fn loads_read_files()
 /// - `places`: a save that is not refused places the bytes of the value of its name.
 /// - `only`: no other line places a file.
 /// - `asks`: a line asks the shelf exactly where it fetches a file or is a save that its step does not refuse.
-/// - `solids`: two solids have equal EVM files exactly if they are equal.
-/// - `names`: so two names of one dimension have equal EVM files exactly if they have the same cells.
-/// - `loads`: bytes state a solid as an EVM file exactly if they are its EVM file.
+/// - `solids`: two solids are saved in equal EVM files exactly if they are equal.
+/// - `names`: so two names of one dimension are saved in equal EVM files exactly if they have the same cells.
+/// - `loads`: bytes state a solid as an EVM file exactly if it is saved in these bytes, or they are its file of version 1.
 /// - `boxes`: the box file in which a solid is saved states this solid.
 pub fn saves_write_files()
     ensures places { SavesPlaceValues }

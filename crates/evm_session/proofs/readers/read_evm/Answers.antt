@@ -14,4 +14,4 @@ returns-then-dim c =
 
 pub returns : goal.returns
 returns c =
-    figure_filed c.in_ok-solid.solid c.args.dim c.args.bytes.now c.facts.ensures.solid c.facts.ensures.vertices c.in_ok-solid.ensures.ok (sym c.dim.ensures ∙ c.if-dim.false)
+    figure_filed c.in_ok-solid.solid c.args.dim c.args.bytes.now c.facts.ensures.solid c.in_ok-solid.ensures.ok (sym c.dim.ensures ∙ c.if-dim.false)
