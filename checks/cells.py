@@ -275,19 +275,73 @@ def read_y4m(data, dim, threshold):
     return placed(images, dim)
 
 
+def couplets(rows):
+    """The rows of each first coordinate, without it."""
+    found = {}
+    for height, *rest in rows:
+        found.setdefault(height, []).append(tuple(rest))
+    return found
+
+
+def body_of(rows, dim):
+    if dim == 0:
+        return b""
+    parts = couplets(rows)
+    return struct.pack(">I", len(parts)) + b"".join(struct.pack(">i", height) + body_of(parts[height], dim - 1) for height in sorted(parts))
+
+
 def evm_file(cells, dim):
-    rows = vertices(cells, dim)
-    return struct.pack(">4sBBHQ", b"NEVM", 1, dim, 0, len(rows)) + b"".join(struct.pack(f">{dim}i", *row) for row in rows)
+    return struct.pack(">4sBBH", b"NEVM", 2, dim, 0) + body_of(vertices(cells, dim), dim)
+
+
+class NoBody(Exception):
+    """The bytes are not one body, or a count or a height in it is wrong."""
+
+
+def body_rows(data, dim, inner=False):
+    """The rows of a body, and the bytes behind it."""
+    if dim == 0:
+        return [()], data
+    if len(data) < 4:
+        raise NoBody
+    count, data, rows, last = struct.unpack(">I", data[:4])[0], data[4:], [], None
+    if inner and not count:
+        raise NoBody
+    for _ in range(count):
+        if len(data) < 4:
+            raise NoBody
+        height, = struct.unpack(">i", data[:4])
+        below, data = body_rows(data[4:], dim - 1, True)
+        if last is not None and height <= last:
+            raise NoBody
+        rows += [(height, *row) for row in below]
+        last = height
+    return rows, data
+
+
+def first_rows(data, dim):
+    """The rows of a file of version 1."""
+    if len(data) < 16:
+        return None
+    count, = struct.unpack(">Q", data[8:16])
+    if len(data) != 16 + 4 * dim * count:
+        return None
+    return list(struct.iter_unpack(f">{dim}i", data[16:]))
 
 
 def read_evm(data, dim, _threshold):
-    if len(data) < 16:
+    if len(data) < 8 or data[:4] != b"NEVM" or data[4] not in (1, 2) or data[5] != dim or data[6:8] != b"\0\0":
         return None
-    magic, version, stated, zero, count = struct.unpack(">4sBBHQ", data[:16])
-    if (magic, version, stated, zero) != (b"NEVM", 1, dim, 0) or len(data) != 16 + 4 * dim * count:
-        return None
-    rows = [row for row in struct.iter_unpack(f">{dim}i", data[16:])]
-    if not all(map(is_point, rows)) or any(a >= b for a, b in zip(rows, rows[1:])):
+    if data[4] == 1:
+        rows = first_rows(data, dim)
+    else:
+        try:
+            rows, rest = body_rows(data[8:], dim)
+        except NoBody:
+            return None
+        if rest:
+            return None
+    if rows is None or not all(map(is_point, rows)) or any(a >= b for a, b in zip(rows, rows[1:])):
         return None
     return cells_of_vertices(rows, dim)
 

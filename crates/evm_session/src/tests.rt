@@ -167,7 +167,7 @@ const FILES: [(&str, &str); 22] = [
     ("input a 2", "ok 0\n"),
     ("add a 0 0 2 2", "ok 1\n"),
     ("save a evm a.evm", "no shelf\n"),
-    ("save a evm a.evm", "ok 48\n"),
+    ("save a evm a.evm", "ok 44\n"),
     ("save zz evm a.evm", "no name\n"),
     ("input b 2", "ok 0\n"),
     ("def c shift b 1073741823 0", "ok 0\n"),

@@ -10,6 +10,10 @@ use std::test::Fail;
 
 /// The EVM file of the box from 0 0 to 2 3.
 const BOX_FILE: &[u8] =
+    b"NEVM\x02\x02\0\0\0\0\0\x02\0\0\0\0\0\0\0\x02\0\0\0\0\0\0\0\x03\0\0\0\x02\0\0\0\x02\0\0\0\0\0\0\0\x03";
+
+/// Its EVM file of version 1.
+const FIRST_BOX_FILE: &[u8] =
     b"NEVM\x01\x02\0\0\0\0\0\0\0\0\0\x04\0\0\0\0\0\0\0\0\0\0\0\0\0\0\0\x03\0\0\0\x02\0\0\0\0\0\0\0\x02\0\0\0\x03";
 
 /// A shelf with the file `f`, of which one call fails.
@@ -26,15 +30,15 @@ const NEVER: u64 = 99;
 const EQUAL_SOLIDS: [(&str, &str); 3] = [
     (
         "input a 2 / add a 0 0 2 1 / save a evm f / input b 2 / add b 0 0 1 1 / add b 1 0 2 1 / save b evm g",
-        "ok 0 / ok 1 / ok 48 / ok 0 / ok 1 / ok 1 / ok 48",
+        "ok 0 / ok 1 / ok 44 / ok 0 / ok 1 / ok 1 / ok 44",
     ),
     (
         "input r 2 / add r 0 0 3 3 / cut r 1 1 2 2 / input s 2 / add s 0 0 3 1 / add s 0 2 3 3 / add s 0 1 1 2 / add s 2 1 3 2 / save r evm f / save s evm g / input t 2 / load t evm f / boundary t / load t evm g",
-        "ok 0 / ok 1 / ok 1 / ok 0 / ok 1 / ok 1 / ok 1 / ok 1 / ok 80 / ok 80 / ok 0 / ok 1 / ok 16 / ok 0",
+        "ok 0 / ok 1 / ok 1 / ok 0 / ok 1 / ok 1 / ok 1 / ok 1 / ok 76 / ok 76 / ok 0 / ok 1 / ok 16 / ok 0",
     ),
     (
         "input a 2 / add a 0 0 2 3 / def c swap a 1 2 / def e swap c 1 2 / save a evm f / save e evm g",
-        "ok 0 / ok 1 / ok 0 / ok 0 / ok 48 / ok 48",
+        "ok 0 / ok 1 / ok 0 / ok 0 / ok 44 / ok 44",
     ),
 ];
 
@@ -46,7 +50,7 @@ const CUBE_MESH: &[u8] =
 const SAVED: [(&str, &str, &[u8]); 4] = [
     (
         "input a 2 / save a evm f / toggle a 0 0 2 3 / save a evm f / show a",
-        "ok 0 / ok 16 / ok 1 / ok 48 / ok 2 4 / 0 0 / 0 3 / 2 0 / 2 3",
+        "ok 0 / ok 12 / ok 1 / ok 44 / ok 2 4 / 0 0 / 0 3 / 2 0 / 2 3",
         BOX_FILE,
     ),
     (
@@ -84,11 +88,16 @@ fn a_solid_is_saved_in_its_one_file(rt: HostRuntime) -> Result<(), Fail> {
 }
 
 /// Files, scripts that load them, and the replies.
-const LOADED: [(&[u8], &str, &str); 10] = [
+const LOADED: [(&[u8], &str, &str); 11] = [
     (
         BOX_FILE,
         "input a 2 / def c or a a / load a evm f / show a / load a evm f",
         "ok 0 / ok 0 / ok 2 / ok 2 4 / 0 0 / 0 3 / 2 0 / 2 3 / ok 0",
+    ),
+    (
+        FIRST_BOX_FILE,
+        "input a 2 / load a evm f / save a evm n / load a evm n",
+        "ok 0 / ok 1 / ok 44 / ok 0",
     ),
     (
         b"evm-boxes 1 2\n0 0 1 3\n1 0 2 1\n1 2 2 3\n2 0 3 3\n",
@@ -138,7 +147,7 @@ const LOADED: [(&[u8], &str, &str); 10] = [
 ];
 
 /// Forms, and files that are none of the form in dimension 2.
-const NO_FORM: [(&str, &[u8]); 21] = [
+const NO_FORM: [(&str, &[u8]); 25] = [
     // A head without rows, and one that states more rows than any file has.
     ("evm", b"NEVM\x01\x02\0\0\0\0\0\0\0\0\0\x04"),
     ("evm", b"NEVM\x01\x02\0\0\xff\xff\xff\xff\xff\xff\xff\xff"),
@@ -157,9 +166,26 @@ const NO_FORM: [(&str, &[u8]); 21] = [
     ),
     // Another dimension, another version, no head, and a byte too many.
     ("evm", b"NEVM\x01\x03\0\0\0\0\0\0\0\0\0\0"),
-    ("evm", b"NEVM\x02\x02\0\0\0\0\0\0\0\0\0\0"),
+    ("evm", b"NEVM\x03\x02\0\0\0\0\0\0"),
     ("evm", b"NEVM\x01\x02\0\0\0\0\0\0\0\0\0"),
     ("evm", b"NEVM\x01\x02\0\0\0\0\0\0\0\0\0\0\0"),
+    // A height that stands twice, a couplet without coordinates, an odd line, and the box without its last byte.
+    (
+        "evm",
+        b"NEVM\x02\x02\0\0\0\0\0\x03\0\0\0\0\0\0\0\x01\0\0\0\0\0\0\0\0\0\0\0\x01\0\0\0\x03\0\0\0\x02\0\0\0\x02\0\0\0\0\0\0\0\x03",
+    ),
+    (
+        "evm",
+        b"NEVM\x02\x02\0\0\0\0\0\x03\0\0\0\0\0\0\0\x02\0\0\0\0\0\0\0\x03\0\0\0\x01\0\0\0\0\0\0\0\x02\0\0\0\x02\0\0\0\0\0\0\0\x03",
+    ),
+    (
+        "evm",
+        b"NEVM\x02\x02\0\0\0\0\0\x01\0\0\0\0\0\0\0\x02\0\0\0\0\0\0\0\x03",
+    ),
+    (
+        "evm",
+        b"NEVM\x02\x02\0\0\0\0\0\x02\0\0\0\0\0\0\0\x02\0\0\0\0\0\0\0\x03\0\0\0\x02\0\0\0\x02\0\0\0\0\0\0\0",
+    ),
     // A line with too few numbers, an empty box, no first line, and another dimension.
     (
         "boxes",
@@ -199,7 +225,7 @@ const REFUSED: [(u64, &str, &str); 7] = [
     (
         NEVER,
         "input a 2 / add a 0 0 1 1 / load a evm none / content a / save a evm none / load a evm none",
-        "ok 0 / ok 1 / no missing / ok 1 / ok 48 / ok 0",
+        "ok 0 / ok 1 / no missing / ok 1 / ok 44 / ok 0",
     ),
     // Nothing is fetched or placed where a line is refused before.
     (
@@ -260,7 +286,7 @@ fn a_line_whose_reply_is_cut_has_saved_its_file(rt: HostRuntime) -> Result<(), F
     assert_eq!(rt; str::from_utf8(output.bytes()), Ok("ok 0\n"));
     assert_eq!(rt;
         shelf.get(b"f"),
-        Some(b"NEVM\x01\x02\0\0\0\0\0\0\0\0\0\0".as_slice())
+        Some(b"NEVM\x02\x02\0\0\0\0\0\0".as_slice())
     );
     assert_eq!(rt; shelf.get(b"g"), None);
     Ok(())
