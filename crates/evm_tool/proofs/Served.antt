@@ -1,19 +1,19 @@
 -- How the lines that were answered grow by one, and what they give at the end.
-use Rattle.std.proofs.Common.{◌≡◌, ℕ, ◌+◌, ◌≤◌, Bool, true, false, not, ◌||◌, List, [], ◌∷◌, ◌++◌, length, take, drop, refl, sym, ◌∙◌, ap, subst, arith, Option, is_some, Result, Ok, Err, codes}
-use Rattle.std.proofs.lemmas.List.{take-append-drop, length-append, length-drop}
+use Rattle.std.proofs.Common.{◌≡◌, ℕ, ◌+◌, ◌≤◌, Bool, true, false, not, ◌&&◌, ◌||◌, List, [], ◌∷◌, ◌++◌, length, take, drop, refl, sym, ◌∙◌, ap, subst, arith, append_assoc, Option, is_some, Result, Ok, Err, codes}
+use Rattle.std.proofs.Math.Bool.{or_assoc}
+use Rattle.std.proofs.Math.Seq.{drop-append_seam}
+use Rattle.std.proofs.lemmas.List.{take-append-drop, length-append, length-drop, append-nil}
 use Rattle.std.specs.Io.KnownBytes.{Appends}
 use Rattle.evm_cells.proofs.Xor.{and_both}
 use Rattle.evm_outside.specs.declared.Failed.{Failed}
 use Rattle.evm_model.specs.Scene.{Scene, start}
 use Rattle.evm_model.specs.Replies.{Reply, reply_text, is_no}
-use Rattle.evm_model.specs.Runs.{World, Mark, NoMemory, answer, may_have, run, texts, some_no, world_after}
-use Rattle.evm_text.specs.Lines.{lines}
-use Rattle.evm_model.proofs.RunLaws.{run_more, world_more, texts_more, some_no_more, drop_more, run_no_marks, after_no_marks, may_no_marks, may_more}
+use Rattle.evm_model.specs.Runs.{World, Mark, NoMemory, answer, may_have, may_all_have, run, texts, some_no, world_after}
+use Rattle.evm_model.proofs.RunLaws.{run_more, run_later, world_more, texts_more, some_no_more, drop_more, run_no_marks, after_no_marks, may_no_marks, may_more}
 use Rattle.evm_session.specs.Answers.{ShelfView, IsAnswered, IsAsBefore, world_of, AreFiles}
 use Rattle.evm_tool.specs.Streams.{AppendsPart}
-use Rattle.evm_tool.specs.Served.{Serves, Progress}
-use Rattle.evm_tool.specs.Top.{first_world, is_no_shelf, is_no_missing, Counts, LeavesShelf, Answers, WritesTo}
-use Rattle.evm_tool.specs.declared.top.Status.TheVariants.{Done, Refused, WriteFault}
+use Rattle.evm_tool.specs.Served.{Serves, Progress, State, ServesFrom, Served}
+use Rattle.evm_tool.specs.Top.{first_world, is_no_shelf, is_no_missing, Counts, LeavesShelf, Answers, Begins}
 use Rattle.evm_tool.proofs.Streams.{appends_nothing, appends_more}
 use Rattle.evm_tool.proofs.Worlds.{IsSameButFiles, IsOf, alike, files_alike, may_alike, told_kept, files_kept, files_told}
 use Rattle.evm_tool.proofs.Counts.{counts_none, counts_more, tells_faults, tells_misses, faults_over, misses_over}
@@ -177,47 +177,110 @@ progress_more ls rest line after old new a b c some fine next first s t p e v n 
           ∙ sym n;
     }
 
--- the sink failed at the next line
-pub progress_cut : (script : List ℕ) (rest : List (List ℕ)) (line : List ℕ) (after : List (List ℕ)) (old new : Scene) (a b c : Option (List ℕ)) (some : Bool) (f : Failed) (first s t : ShelfView)
-    → Progress (lines script) rest old a b some first s → rest ≡ line ∷ after → Serves (Err f) old new b c line s t → WritesTo a c WriteFault script first t
-progress_cut script rest line after old new a b c some f first s t p e v =
-    let text = reply_text (answer (world_of old s.files) line v.mark).reply in
-    let so_far = texts (run (first_world first) (lines script) p.marks) in
-    let n = v.sent.0 in
+-- ---- lines that were served, in a run of them and of more
+
+may_later : (told : Bool) (world : World) (ls more : List (List ℕ)) (ms : List Mark) → length ms ≤ length ls → may_all_have told world (ls ++ more) ms ≡ may_all_have told world ls ms
+may_later told world [] more [] h = may_no_marks told world more
+may_later told world [] more (m ∷ ms) h = absurd (omega arith)
+may_later told world (l ∷ ls) more [] h = refl
+may_later told world (l ∷ ls) more (m ∷ ms) h = ap (λ (b : Bool). may_have told world l m && b) (may_later told (answer world l m).world ls more ms (omega arith))
+
+leaves_later : (ls more : List (List ℕ)) (ms : List Mark) (s t : ShelfView) → length ms ≤ length ls → LeavesShelf ls ms s t → LeavesShelf (ls ++ more) ms s t
+leaves_later ls more ms s t h v =
+    let same = run_later (first_world s) ls more ms h in
     record {
-      gained = so_far ++ take n text;
-      appended = appends_more a b c so_far (take n text) p.text v.sent.2;
-      written = record {
-        marks = p.marks;
-        mark = v.mark;
-        line = line;
-        later = after;
-        here = p.left ∙ e;
-        shelf = leaves_there (lines script) rest line after old new a b c some first s t (Err f) p e v;
-        front = take n text;
-        rest = drop n text;
-        more = omega (arith, v.sent.1, length-drop n text);
-        cut = take-append-drop n text ∙ ap reply_text (alike_here (lines script) rest line after old new a b c some first s t (Err f) p e v).reply;
-        text = refl;
-      };
+      allowed = may_later (is_some s.files) (first_world s) ls more ms h ∙ v.allowed;
+      told = v.told;
+      files = subst (λ (w : World). AreFiles t.files w.files) (sym same.1) v.files;
+      faults = subst (λ (rs : List Reply). Counts is_no_shelf rs s.faults t.faults) (sym same.0) v.faults;
+      misses = subst (λ (rs : List Reply). Counts is_no_missing rs s.misses t.misses) (sym same.0) v.misses;
     }
 
-progress_all : (ls : List (List ℕ)) (rest : List ℕ) (scene : Scene) (a b : Option (List ℕ)) (some : Bool) (first s : ShelfView) (p : Progress ls (lines rest) scene a b some first s)
-    → lines rest ≡ [] → Answers ls (texts (run (first_world first) ls p.marks)) some first s
-progress_all ls rest scene a b some first s p h = record {
+-- as many marks as lines, where all of them were answered
+pub each_marked : (ls : List (List ℕ)) (scene : Scene) (a b : Option (List ℕ)) (some : Bool) (first s : ShelfView) (p : Progress ls [] scene a b some first s) → length p.marks ≡ length ls
+each_marked ls scene a b some first s p = omega (arith, p.most, ap length p.left, length-drop (length p.marks) ls)
+
+-- where all of them were answered, they are the front of a longer run
+progress_open : (ls more : List (List ℕ)) (scene : Scene) (a b : Option (List ℕ)) (some : Bool) (first s : ShelfView) → Progress ls [] scene a b some first s → Progress (ls ++ more) more scene a b some first s
+progress_open ls more scene a b some first s p =
+    let same = run_later (first_world first) ls more p.marks p.most in
+    let all = each_marked ls scene a b some first s p in
+    record {
+      marks = p.marks;
+      most = omega (arith, p.most, length-append ls more);
+      left = ap (λ (k : ℕ). drop k (ls ++ more)) all ∙ drop-append_seam ls more;
+      reached = p.reached ∙ ap (λ (w : World). w.scene) (sym same.1);
+      shelf = leaves_later ls more p.marks first s p.most p.shelf;
+      text = subst (λ (rs : List Reply). Appends a b (texts rs)) (sym same.0) p.text;
+      refused = ap some_no same.0 ∙ p.refused;
+    }
+
+pub or_false : (b c : Bool) → c ≡ false → b || c ≡ b
+or_false true c e = refl
+or_false false c e = e
+
+-- and those that were served after them are answered too
+pub served_progress : (done ls : List (List ℕ)) (before some : Bool) (s t : State) (a : Option (List ℕ)) (first : ShelfView) → Progress done [] s.scene a s.written before first s.shelf
+    → Served ls some s t → Progress (done ++ ls) [] t.scene a t.written (before || some) first t.shelf
+served_progress done [] before some s t a first p v =
+    subst (λ (x : State). Progress (done ++ []) [] x.scene a x.written (before || some) first x.shelf) (sym v.0)
+    (subst (λ (b : Bool). Progress (done ++ []) [] s.scene a s.written b first s.shelf) (sym (or_false before some v.1))
+    (subst (λ (ls : List (List ℕ)). Progress ls [] s.scene a s.written before first s.shelf) (sym (append-nil done)) p))
+served_progress done (line ∷ more) before some s t a first p v =
+    let between = v.0 in
+    let fine = v.1 in
+    let later = v.2 in
+    let step : Progress (done ++ line ∷ []) [] between.scene a between.written (before || not fine) first between.shelf =
+    progress_more (done ++ line ∷ []) (line ∷ []) line [] s.scene between.scene a s.written between.written before fine (before || not fine) first s.shelf between.shelf
+    (progress_open done (line ∷ []) s.scene a s.written before first s.shelf p) refl v.3 refl in
+    subst (λ (ls : List (List ℕ)). Progress ls [] t.scene a t.written (before || some) first t.shelf) (append_assoc done (line ∷ []) more)
+    (subst (λ (b : Bool). Progress ((done ++ line ∷ []) ++ more) [] t.scene a t.written b first t.shelf)
+    (or_assoc before (not fine) later ∙ ap (λ (b : Bool). before || b) (sym v.5))
+    (served_progress (done ++ line ∷ []) more (before || not fine) later between t a first step v.4))
+
+-- all of them were answered
+pub answers_of : (ls : List (List ℕ)) (scene : Scene) (a b : Option (List ℕ)) (some : Bool) (first s : ShelfView) (p : Progress ls [] scene a b some first s)
+    → Answers ls (texts (run (first_world first) ls p.marks)) some first s
+answers_of ls scene a b some first s p = record {
   marks = p.marks;
-  each = omega (arith, p.most, ap length (p.left ∙ h), length-drop (length p.marks) ls);
+  each = each_marked ls scene a b some first s p;
   shelf = p.shelf;
   text = refl;
   refused = p.refused;
 }
 
--- all lines were answered and none was refused
-pub progress_done : (script rest : List ℕ) (scene : Scene) (a b : Option (List ℕ)) (first s : ShelfView) → Progress (lines script) (lines rest) scene a b false first s → lines rest ≡ [] → WritesTo a b Done script first s
-progress_done script rest scene a b first s p h =
-    record { gained = texts (run (first_world first) (lines script) p.marks); appended = p.text; written = progress_all (lines script) rest scene a b false first s p h }
+-- the sink failed at a line, and so many before it were answered
+pub record CutsAt (ls : List (List ℕ)) (count : ℕ) (before now : Option (List ℕ)) (first t : ShelfView) : Type 0 where
+  pub gained : List ℕ
+  pub appended : Appends before now gained
+  pub begins : Begins ls gained first t
+  pub counted : length begins.marks ≡ count
 
--- all lines were answered and some was refused
-pub progress_refused : (script rest : List ℕ) (scene : Scene) (a b : Option (List ℕ)) (first s : ShelfView) → Progress (lines script) (lines rest) scene a b true first s → lines rest ≡ [] → WritesTo a b Refused script first s
-progress_refused script rest scene a b first s p h =
-    record { gained = texts (run (first_world first) (lines script) p.marks); appended = p.text; written = progress_all (lines script) rest scene a b true first s p h }
+-- the sink failed at the next line
+pub progress_cut : (ls : List (List ℕ)) (line : List ℕ) (after : List (List ℕ)) (old new : Scene) (a b c : Option (List ℕ)) (some : Bool) (f : Failed) (first s t : ShelfView)
+    → Progress ls [] old a b some first s → Serves (Err f) old new b c line s t → CutsAt (ls ++ line ∷ after) (length ls) a c first t
+unfolding progress_open
+progress_cut ls line after old new a b c some f first s t all v =
+    let p = progress_open ls (line ∷ after) old a b some first s all in
+    let longer = ls ++ line ∷ after in
+    let text = reply_text (answer (world_of old s.files) line v.mark).reply in
+    let so_far = texts (run (first_world first) longer p.marks) in
+    let n = v.sent.0 in
+    record {
+      gained = so_far ++ take n text;
+      appended = appends_more a b c so_far (take n text) p.text v.sent.2;
+      begins = record {
+        marks = p.marks;
+        mark = v.mark;
+        line = line;
+        later = after;
+        here = p.left;
+        shelf = leaves_there longer (line ∷ after) line after old new a b c some first s t (Err f) p refl v;
+        front = take n text;
+        rest = drop n text;
+        more = omega (arith, v.sent.1, length-drop n text);
+        cut = take-append-drop n text ∙ ap reply_text (alike_here longer (line ∷ after) line after old new a b c some first s t (Err f) p refl v).reply;
+        text = refl;
+      };
+      counted = each_marked ls old a b some first s all;
+    }

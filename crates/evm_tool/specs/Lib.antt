@@ -1,3 +1,5 @@
+pub mod EndedLines
 pub mod Streams
 pub mod Top
 pub mod Served
+pub mod Script

@@ -1,6 +1,6 @@
 -- One line that was answered, and all lines so far.
-use Rattle.std.specs.Prelude.{ℕ, ◌≡◌, ◌≤◌, Bool, true, not, List, length, drop, Option, is_some, Result, Ok, Err}
-use Rattle.std.specs.Io.KnownBytes.{Appends}
+use Rattle.std.specs.Prelude.{ℕ, ◌≡◌, ◌+◌, ◌≤◌, ◌⊎◌, Bool, true, false, not, ◌||◌, List, [], ◌∷◌, ◌++◌, ◌-◌, All, length, take, drop, Option, is_some, Result, Ok, Err}
+use Rattle.std.specs.Io.KnownBytes.{Appends, Consumes, IsAtEnd}
 use Rattle.evm_outside.specs.declared.Failed.{Failed}
 use Rattle.evm_outside.specs.Causes.{Climbed, MayClimb}
 use Rattle.evm_model.specs.Scene.{Scene}
@@ -8,8 +8,12 @@ use Rattle.evm_model.specs.Edits.{Shelf, Missing, Memory}
 use Rattle.evm_model.specs.Replies.{Reply, No, reply_text, is_no}
 use Rattle.evm_model.specs.Runs.{Mark, answer, may_have, run, texts, some_no, world_after}
 use Rattle.evm_session.specs.Answers.{ShelfView, world_of, AreFiles}
-use Rattle.evm_tool.specs.Streams.{AppendsPart}
-use Rattle.evm_tool.specs.Top.{LeavesShelf, first_world}
+use Rattle.evm_text.specs.Lines.{lines, text_of}
+use Rattle.evm_tool.specs.EndedLines.{HasNoLf, IsCut, ended_lines}
+use Rattle.evm_tool.specs.Streams.{AppendsPart, script_limit, piece_max, line_kept}
+use Rattle.evm_tool.specs.Top.{LeavesShelf, first_world, TakesAll}
+use Rattle.evm_tool.specs.declared.top.Status.{Status}
+use Rattle.evm_tool.specs.declared.top.Status.TheVariants as ends
 
 -- the reply went out whole, or in part where the sink failed
 abbrev pub Sends : Result Bool Failed → Option (List ℕ) → Option (List ℕ) → Reply → Type 0
@@ -48,3 +52,70 @@ pub record Progress (ls rest : List (List ℕ)) (scene : Scene) (before now : Op
   pub shelf : LeavesShelf ls marks shelf_before shelf_now
   pub text : Appends before now (texts (run (first_world shelf_before) ls marks))
   pub refused : some_no (run (first_world shelf_before) ls marks) ≡ some
+
+-- what the answers change: the scene, what was written, and the shelf
+pub record State : Type 0 where
+  pub scene : Scene
+  pub written : Option (List ℕ)
+  pub shelf : ShelfView
+
+abbrev pub state_of : Scene → Option (List ℕ) → ShelfView → State
+state_of scene written shelf = record { scene = scene; written = written; shelf = shelf }
+
+-- one line was served on the way from a state to another
+abbrev pub ServesFrom : Result Bool Failed → List ℕ → State → State → Type 0
+ServesFrom result line old new = Serves result old.scene new.scene old.written new.written line old.shelf new.shelf
+
+-- these lines were served one after another, and some reply refused or none did
+abbrev pub Served : List (List ℕ) → Bool → State → State → Type 0
+Served [] some old new = (new ≡ old) × (some ≡ false)
+Served (line ∷ more) some old new =
+    (between : State) × (fine : Bool) × (later : Bool) × ServesFrom (Ok fine) line old between × Served more later between new × (some ≡ not fine || later)
+
+-- the front of a text is lines that were served, each with an LF behind it, and this is the rest
+pub record ServesFront (text rest : List ℕ) (some : Bool) (old new : State) : Type 0 where
+  pub ls : List (List ℕ)
+  pub whole : text ≡ text_of ls ++ rest
+  pub each : All HasNoLf ls
+  pub served : Served ls some old new
+
+-- each line of a text that an LF ends was served, and so many bytes of the text are left behind them
+pub record ServesEnded (text : List ℕ) (left : ℕ) (some : Bool) (old new : State) : Type 0 where
+  pub ls : List (List ℕ)
+  pub fits : left ≤ length text
+  pub cut : IsCut text ls (drop (length text - left) text)
+  pub served : Served ls some old new
+
+-- the sink failed at the reply to a line that an LF ends, and those before it were served
+pub record CutsEnded (text : List ℕ) (old new : State) : Type 0 where
+  pub ls : List (List ℕ)
+  pub line : List ℕ
+  pub after : List ℕ
+  pub whole : text ≡ text_of (ls ++ line ∷ []) ++ after
+  pub each : All HasNoLf (ls ++ line ∷ [])
+  pub some : Bool
+  pub between : State
+  pub served : Served ls some old between
+  pub failed : Failed
+  pub last : ServesFrom (Err failed) line between new
+
+-- what serving the lines of a text that an LF ends leaves
+abbrev pub AnswersEnded : Result (ℕ × Bool) Failed → List ℕ → State → State → Type 0
+AnswersEnded (Ok rest) text old new = ServesEnded text rest.0 rest.1 old new
+AnswersEnded (Err failed) text old new = CutsEnded text old new
+
+-- what is kept of a line that is not ended yet: all of it, or so much that the line is too long whatever follows
+abbrev pub KeepsOf : List ℕ → List ℕ → Type 0
+KeepsOf kept line = (kept ≡ line) ⊎ ((line_kept ≤ length kept) × (line_kept ≤ length line))
+
+-- so many bytes were taken, the lines that an LF ends among them were served, and this is kept of what follows the last of them
+pub record Stands (left left_now : Option (List ℕ)) (count : ℕ) (kept : List ℕ) (some : Bool) (old now : State) : Type 0 where
+  pub ls : List (List ℕ)
+  pub rest : List ℕ
+  pub each : All HasNoLf ls
+  pub behind : HasNoLf rest
+  pub kept_behind : HasNoLf kept
+  pub taken : Consumes left left_now (text_of ls ++ rest)
+  pub size : length (text_of ls ++ rest) ≡ count
+  pub keeps : KeepsOf kept rest
+  pub served : Served ls some old now

@@ -1,7 +1,7 @@
 -- What a run reads, writes and places, by its status.
-use Rattle.std.specs.Prelude.{ℕ, ◌≡◌, ◌+◌, ◌<◌, ◌≤◌, ◌⊎◌, Bool, true, false, List, [], ◌∷◌, ◌++◌, length, drop, count_by, Option, is_some, bytes_eq, codes}
+use Rattle.std.specs.Prelude.{ℕ, ◌≡◌, ◌+◌, ◌<◌, ◌≤◌, ◌⊎◌, Bool, true, false, List, [], ◌∷◌, ◌++◌, length, take, drop, count_by, Option, is_some, bytes_eq, codes}
 use Rattle.std.specs.List.{list_any}
-use Rattle.std.specs.Io.KnownBytes.{Appends, Consumes, IsAtEnd}
+use Rattle.std.specs.Io.KnownBytes.{Appends, Consumes, Keeps, IsAtEnd}
 use Rattle.evm_outside.specs.Causes.{Rose, counter_last}
 use Rattle.evm_outside.specs.Shelves.{KeepsFiles}
 use Rattle.evm_model.specs.Scene.{start}
@@ -10,9 +10,8 @@ use Rattle.evm_model.specs.Replies.{Reply, No, reply_text}
 use Rattle.evm_model.specs.Runs.{World, Mark, answer, may_all_have, run, world_after, texts, some_no}
 use Rattle.evm_text.specs.Lines.{lines}
 use Rattle.evm_session.specs.Answers.{ShelfView, world_of, AreFiles}
-use Rattle.evm_tool.specs.Streams.{script_limit}
-use Rattle.evm_tool.specs.declared.take.Cut.{Cut}
-use Rattle.evm_tool.specs.declared.take.Cut.TheVariants as cuts
+use Rattle.evm_tool.specs.EndedLines.{ended_lines}
+use Rattle.evm_tool.specs.Streams.{script_limit, piece_max}
 use Rattle.evm_tool.specs.declared.top.Status.{Status}
 use Rattle.evm_tool.specs.declared.top.Status.TheVariants.{Done, Refused, Words, ReadFault, WriteFault, NoMemory, TooLong}
 
@@ -82,6 +81,17 @@ pub record Begins (ls : List (List ℕ)) (gained : List ℕ) (before now : Shelf
   pub cut : front ++ rest ≡ reply_text (answer (world_after (first_world before) ls marks) line mark).reply
   pub text : gained ≡ texts (run (first_world before) ls marks) ++ front
 
+-- the sink failed at the reply to one of the lines, the k-th: those before it were answered whole, and of its own reply only a front
+-- was written. It was a whole line when it was answered: an LF ends it, or the input ends with it. At most one piece was taken after it
+pub record StopsAt (left_now : Option (List ℕ)) (taken gained : List ℕ) (before now : ShelfView) : Type 0 where
+  pub begins : Begins (lines taken) gained before now
+  pub upto : List ℕ
+  pub after : List ℕ
+  pub whole : taken ≡ upto ++ after
+  pub here : lines upto ≡ take (length begins.marks + 1) (lines taken)
+  pub ended : (ended_lines upto ≡ lines upto) ⊎ ((after ≡ []) × IsAtEnd left_now)
+  pub near : length after ≤ piece_max
+
 -- the shelf is as before
 abbrev pub KeepsShelf : ShelfView → ShelfView → Type 0
 KeepsShelf before now = KeepsFiles before.files now.files × (now.faults ≡ before.faults) × (now.misses ≡ before.misses)
@@ -90,41 +100,43 @@ KeepsShelf before now = KeepsFiles before.files now.files × (now.faults ≡ bef
 abbrev pub DoesNothing : List ℕ → ShelfView → ShelfView → Type 0
 DoesNothing gained before now = (gained ≡ []) × KeepsShelf before now
 
--- what was written of the replies to a script, and what it left of the shelf
-abbrev pub Writes : Status → List ℕ → List ℕ → ShelfView → ShelfView → Type 0
-Writes Done script gained before now = Answers (lines script) gained false before now
-Writes Refused script gained before now = Answers (lines script) gained true before now
-Writes Words script gained before now = DoesNothing gained before now
-Writes ReadFault script gained before now = DoesNothing gained before now
-Writes WriteFault script gained before now = Begins (lines script) gained before now
-Writes NoMemory script gained before now = DoesNothing gained before now
-Writes TooLong script gained before now = DoesNothing gained before now
+-- all these lines were answered, whether some reply refuses or not
+abbrev pub AnswersAll : List (List ℕ) → List ℕ → ShelfView → ShelfView → Type 0
+AnswersAll ls gained before now = (some : Bool) × Answers ls gained some before now
 
--- the same of a sink
-pub record WritesTo (before now : Option (List ℕ)) (status : Status) (script : List ℕ) (shelf_before shelf_now : ShelfView) : Type 0 where
-  pub gained : List ℕ
-  pub appended : Appends before now gained
-  pub written : Writes status script gained shelf_before shelf_now
+-- which lines were answered and what was written, by the bytes that were taken: all lines; where the source failed, those that an LF ends;
+-- where the sink failed, those up to the one whose reply was cut; of a script that is too long, those that an LF ends among the bytes
+-- that a script may have
+abbrev pub Writes : Status → Option (List ℕ) → List ℕ → List ℕ → ShelfView → ShelfView → Type 0
+Writes Done left_now taken gained before now = Answers (lines taken) gained false before now
+Writes Refused left_now taken gained before now = Answers (lines taken) gained true before now
+Writes Words left_now taken gained before now = DoesNothing gained before now
+Writes ReadFault left_now taken gained before now = AnswersAll (ended_lines taken) gained before now
+Writes WriteFault left_now taken gained before now = StopsAt left_now taken gained before now
+Writes NoMemory left_now taken gained before now = DoesNothing gained before now
+Writes TooLong left_now taken gained before now = AnswersAll (ended_lines (take script_limit taken)) gained before now
 
 -- all known bytes are these, and they are no more than a script may have
 abbrev pub TakesAll : Option (List ℕ) → Option (List ℕ) → List ℕ → Type 0
 TakesAll before now taken = Consumes before now taken × IsAtEnd now × (length taken ≤ script_limit)
 
--- the bytes that were taken, of a source that tells them: all to the end, none, a front of them, or just one more than a script may have
+-- the bytes that were taken, of a source that tells them: all to the end; none; a front of them; or just one more than a script may have
 abbrev pub Takes : Status → Option (List ℕ) → Option (List ℕ) → List ℕ → Type 0
 Takes Done before now taken = TakesAll before now taken
 Takes Refused before now taken = TakesAll before now taken
 Takes Words before now taken = Consumes before now taken × (taken ≡ [])
 Takes ReadFault before now taken = Consumes before now taken × (length taken ≤ script_limit)
-Takes WriteFault before now taken = TakesAll before now taken
-Takes NoMemory before now taken = Consumes before now taken × (length taken ≤ script_limit + 1)
+Takes WriteFault before now taken = Consumes before now taken × (length taken ≤ script_limit)
+Takes NoMemory before now taken = Consumes before now taken × (taken ≡ [])
 Takes TooLong before now taken = Consumes before now taken × (length taken ≡ script_limit + 1)
 
 -- some bytes were taken, whatever they are, and what was written and left of the shelf is what a run of these bytes writes and leaves
 pub record Runs (status : Status) (left left_now written written_now : Option (List ℕ)) (shelf shelf_now : ShelfView) : Type 0 where
-  pub script : List ℕ
-  pub taken : Takes status left left_now script
-  pub writes : WritesTo written written_now status script shelf shelf_now
+  pub taken : List ℕ
+  pub takes : Takes status left left_now taken
+  pub gained : List ℕ
+  pub appended : Appends written written_now gained
+  pub writes : Writes status left_now taken gained shelf shelf_now
 
 -- the source's count of faults rose where a read fault is answered, and else it is as before
 abbrev pub ReadFaults : Status → ℕ → ℕ → Type 0
@@ -146,40 +158,24 @@ WriteFaults WriteFault before now = Rose before now
 WriteFaults NoMemory before now = now ≡ before
 WriteFaults TooLong before now = now ≡ before
 
--- all lines were answered, or memory was missing
-abbrev pub IsAnswered : Status → Type 0
-IsAnswered Done = Unit {0}
-IsAnswered Refused = Unit {0}
-IsAnswered Words = ⊥
-IsAnswered ReadFault = ⊥
-IsAnswered WriteFault = ⊥
-IsAnswered NoMemory = Unit {0}
-IsAnswered TooLong = ⊥
+-- all lines were answered; or memory was missing, no byte was taken and nothing was written
+abbrev pub IsAnswered : Status → Option (List ℕ) → Option (List ℕ) → Option (List ℕ) → Option (List ℕ) → Type 0
+IsAnswered Done left left_now written written_now = Unit {0}
+IsAnswered Refused left left_now written written_now = Unit {0}
+IsAnswered Words left left_now written written_now = ⊥
+IsAnswered ReadFault left left_now written written_now = ⊥
+IsAnswered WriteFault left left_now written written_now = ⊥
+IsAnswered NoMemory left left_now written written_now = Keeps left left_now × Keeps written written_now
+IsAnswered TooLong left left_now written written_now = ⊥
 
 -- a run of a script that is not too long is answered where neither the source nor the sink failed
-abbrev pub Completes : Status → List (List ℕ) → List ℕ → ℕ → ℕ → ℕ → ℕ → Type 0
-Completes status words script read_before read_now write_before write_now =
+abbrev pub Completes : Status → List (List ℕ) → List ℕ → Option (List ℕ) → Option (List ℕ) → Option (List ℕ) → Option (List ℕ) → ℕ → ℕ → ℕ → ℕ → Type 0
+Completes status words script left left_now written written_now read_before read_now write_before write_now =
     is_run words ≡ true
     → length script ≤ script_limit
     → (Rose read_before read_now → ⊥)
     → (Rose write_before write_now → ⊥)
-    → IsAnswered status
-
--- a status that comes after the script was read
-abbrev pub IsRunStatus : Status → Type 0
-IsRunStatus Done = Unit {0}
-IsRunStatus Refused = Unit {0}
-IsRunStatus Words = ⊥
-IsRunStatus ReadFault = ⊥
-IsRunStatus WriteFault = Unit {0}
-IsRunStatus NoMemory = Unit {0}
-IsRunStatus TooLong = ⊥
-
--- the status where a script was not read whole
-abbrev pub cut_status : Cut → Status
-cut_status cuts.Fault = ReadFault
-cut_status cuts.TooLong = TooLong
-cut_status cuts.NoMemory = NoMemory
+    → IsAnswered status left left_now written written_now
 
 -- the exit status
 abbrev pub exit_code : Status → ℕ

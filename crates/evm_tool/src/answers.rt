@@ -1,21 +1,22 @@
 //! Answers the lines of a script.
 
+ghost use Rattle.std.specs.Prelude.{◌≡◌, ◌<◌, ◌++◌, ◌∷◌, length, IfSome, MatchOption};
+ghost use Rattle.std.specs.List.{position};
+ghost use Rattle.evm_text.specs.Lines.{is_lf};
 ghost use Rattle.evm_outside.specs.Causes.{HasCause};
 ghost use Rattle.evm_session.specs.Answers.{shelf_view};
-ghost use Rattle.evm_tool.specs.Served.{Serves};
-ghost use Rattle.evm_tool.specs.Top.{WritesTo, WriteFaults, IsRunStatus};
+ghost use Rattle.evm_tool.specs.EndedLines.{HasNoLf};
+ghost use Rattle.evm_tool.specs.Served.{Serves, AnswersEnded, state_of};
 
 use super::send::send;
-use super::top::Status;
 use evm_outside::{Failed, Shelf, Sink};
 use evm_session::{NoMemory, Session};
-use evm_text::first_line;
 use std::alloc::Global;
 
 /// Answers one line, and says whether it was not refused. Want of memory is a reply too.
 ///
 /// The reply is gathered in `out`, whose room is used again for the next line.
-fn serve<O: Sink, S: Shelf>(
+pub fn serve<O: Sink, S: Shelf>(
     alloc: Global,
     session: &mut Session,
     line: &[u8],
@@ -41,38 +42,46 @@ fn serve<O: Sink, S: Shelf>(
     }
 }
 
-/// Answers all lines of a script over a shelf, in a new session, and writes each reply before the next line is answered.
-///
-/// [`Status::Refused`] where some reply refuses its line, else [`Status::Done`]; [`Status::WriteFault`] where
-/// the sink failed, and [`Status::NoMemory`] where there is none for the session.
-pub fn answer_all<O: Sink, S: Shelf>(
-    alloc: Global,
-    script: &[u8],
-    output: &mut O,
-    shelf: &mut S,
-) -> Status
-    ensures status { IsRunStatus result }
-    ensures writes { WritesTo (O.written output.old) (O.written output.new) result script.now
-        (shelf_view (S.files shelf.old) (S.faults shelf.old) (S.misses shelf.old))
-        (shelf_view (S.files shelf.new) (S.faults shelf.new) (S.misses shelf.new)) }
-    ensures faults { WriteFaults result (O.faults output.old) (O.faults output.new) }
+/// Where the first LF stands.
+fn first_lf(text: &[u8]) -> Option<usize>
+    ensures place { result ≡ position is_lf text.now }
+    ensures below { IfSome result (λ at. at < length text.now) }
 {
-    let Ok(mut session) = Session::new(alloc) else {
-        return Status::NoMemory;
-    };
-    let mut out = Vec::new(alloc);
+    text.iter().position(|b| *b == b'\n')
+}
+
+/// The first line of a text that an LF ends, without it, and what follows it; or `None` exactly where the text has no LF.
+fn first_ended(text: &[u8]) -> Option<(&[u8], &[u8])>
+    ensures { MatchOption result (HasNoLf text.now)
+        (λ cut. (text.now ≡ cut.0.now ++ 10 ∷ cut.1.now) × HasNoLf cut.0.now) }
+{
+    match first_lf(text) {
+        Some(at) => Some((&text[..at], &text[at + 1..])),
+        None => None,
+    }
+}
+
+/// Answers each line of a text that an LF ends, and says how many bytes are left behind them, and whether some reply refuses.
+pub fn answer_ended<O: Sink, S: Shelf>(
+    alloc: Global,
+    session: &mut Session,
+    text: &[u8],
+    shelf: &mut S,
+    out: &mut Vec<u8>,
+    output: &mut O,
+) -> Result<(usize, bool), Failed>
+    ensures answered { AnswersEnded result text.now
+        (state_of session.old (O.written output.old)
+        (shelf_view (S.files shelf.old) (S.faults shelf.old) (S.misses shelf.old)))
+        (state_of session.new (O.written output.new)
+        (shelf_view (S.files shelf.new) (S.faults shelf.new) (S.misses shelf.new))) }
+    ensures cause { HasCause (O.faults output.old) (O.faults output.new) result }
+{
     let mut refused = false;
-    let mut rest = script;
-    while let Some((line, after)) = first_line(rest) {
-        let Ok(fine) = serve(alloc, &mut session, line, shelf, &mut out, output) else {
-            return Status::WriteFault;
-        };
-        refused |= !fine;
+    let mut rest = text;
+    while let Some((line, after)) = first_ended(rest) {
+        refused |= !serve(alloc, session, line, shelf, out, output)?;
         rest = after;
     }
-    if refused {
-        Status::Refused
-    } else {
-        Status::Done
-    }
+    Ok((rest.len(), refused))
 }

@@ -5,6 +5,7 @@
 #![tactic(auto)]
 
 mod answers;
+mod script;
 mod send;
 mod take;
 #[cfg(test)]

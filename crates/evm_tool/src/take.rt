@@ -1,8 +1,9 @@
-//! Reads a whole script.
+//! The buffer in which a script is read: what is kept of a line that is not ended, and one piece behind it.
 
-ghost use Rattle.std.specs.Prelude.{◌≡◌, ◌<◌, [], length, IfOk, vec_len};
-ghost use Rattle.evm_tool.specs.declared.take.Cut.TheVariants.{Fault, NoMemory};
-ghost use Rattle.evm_tool.specs.Streams.{TakesPiece, TakesScript, ScriptFaults};
+ghost use Rattle.std.specs.Prelude.{◌≡◌, ◌≤◌, ◌<◌, ◌+◌, ◌-◌, length, min, take, drop, IfOk, vec_len};
+ghost use Rattle.evm_outside.specs.Causes.{HasCause};
+ghost use Rattle.evm_tool.specs.Script.{ReadsBehind};
+ghost use Rattle.evm_tool.specs.Streams.{line_kept, piece_max};
 
 use evm_outside::{Failed, Source};
 use std::alloc::{AllocError, Global};
@@ -13,32 +14,8 @@ pub const SCRIPT_LIMIT: usize = 67_108_864;
 /// The most bytes that are read at once.
 pub const PIECE: usize = 65_536;
 
-/// Why a script was not read whole.
-#[derive(Clone, Copy, Debug, PartialEq, Eq)]
-pub enum Cut {
-    /// The source failed.
-    Fault,
-    /// The script has more than [`SCRIPT_LIMIT`] bytes.
-    TooLong,
-    /// No memory was left.
-    NoMemory,
-}
-
-impl From<Failed> for Cut {
-    ghost from_gives = { λ _ cut. cut ≡ Fault };
-
-    fn from(_: Failed) -> Cut {
-        Cut::Fault
-    }
-}
-
-impl From<AllocError> for Cut {
-    ghost from_gives = { λ _ cut. cut ≡ NoMemory };
-
-    fn from(_: AllocError) -> Cut {
-        Cut::NoMemory
-    }
-}
+/// The most bytes that are kept of a line that is not ended: one that has so many is too long, whatever follows.
+pub const LINE_KEPT: usize = 4_098;
 
 /// A buffer of so many bytes.
 fn zeros(alloc: Global, count: usize) -> Result<Vec<u8>, AllocError>
@@ -47,33 +24,39 @@ fn zeros(alloc: Global, count: usize) -> Result<Vec<u8>, AllocError>
     vec![in alloc; 0u8; count]
 }
 
-/// Reads once, and appends what came: some bytes, or none at the end.
-fn read_piece<I: Source>(input: &mut I, piece: &mut [u8], script: &mut Vec<u8>) -> Result<bool, Cut>
-    requires { 0 < length piece.old }
-    ensures bytes { TakesPiece result (I.left input.old) (I.left input.new)
-        (length piece.old) script.old.items script.new.items }
-    ensures faults { ScriptFaults result (I.faults input.old) (I.faults input.new) }
+/// A buffer for what is kept of a line and for one piece.
+pub fn new_buffer(alloc: Global) -> Result<Vec<u8>, AllocError>
+    ensures { IfOk result (λ made. vec_len made ≡ line_kept + piece_max) }
 {
-    let count = input.read(piece)?;
-    script.extend_from_slice(&piece[..count])?;
-    Ok(count > 0)
+    zeros(alloc, LINE_KEPT + PIECE)
 }
 
-/// Reads all bytes up to the end, unless there are more than [`SCRIPT_LIMIT`].
-///
-/// Never more than one byte past the limit is taken. The script grows by doubling, up to twice its length,
-/// and the reads go through one buffer of [`PIECE`] bytes.
-pub fn read_script<I: Source>(alloc: Global, input: &mut I, script: &mut Vec<u8>) -> Result<(), Cut>
-    requires { script.old.items ≡ [] }
-    ensures bytes { TakesScript result (I.left input.old) (I.left input.new) script.new.items }
-    ensures faults { ScriptFaults result (I.faults input.old) (I.faults input.new) }
+/// Reads once, up to `want` bytes behind the first `kept`, and answers how many came: none only at the end.
+pub fn read_behind<I: Source>(
+    input: &mut I,
+    buffer: &mut [u8],
+    kept: usize,
+    want: usize,
+) -> Result<usize, Failed>
+    requires room { kept + want ≤ length buffer.old }
+    requires some { 0 < want }
+    ensures size { length buffer.new ≡ length buffer.old }
+    ensures bytes { ReadsBehind result kept want (I.left input.old) (I.left input.new) buffer.old buffer.new }
+    ensures cause { HasCause (I.faults input.old) (I.faults input.new) result }
 {
-    let mut buffer = zeros(alloc, PIECE)?;
-    while script.len() <= SCRIPT_LIMIT {
-        let want = PIECE.min(SCRIPT_LIMIT + 1 - script.len());
-        if !read_piece(input, &mut buffer[..want], script)? {
-            return Ok(());
-        }
-    }
-    Err(Cut::TooLong)
+    input.read(&mut buffer[kept..kept + want])
+}
+
+/// Moves the last `left` of the first `end` bytes to the front, [`LINE_KEPT`] of them at most, and answers how many.
+pub fn keep(buffer: &mut [u8], end: usize, left: usize) -> usize
+    requires end { end ≤ length buffer.old }
+    requires left { left ≤ end }
+    ensures size { length buffer.new ≡ length buffer.old }
+    ensures count { result ≡ min left line_kept }
+    ensures bytes { take result buffer.new ≡ take result (drop (end - left) buffer.old) }
+{
+    let start = end - left;
+    let kept = left.min(LINE_KEPT);
+    buffer.copy_within(start..start + kept, 0);
+    kept
 }

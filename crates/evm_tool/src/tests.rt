@@ -1,5 +1,6 @@
 //! Whole runs over a source, a sink and a shelf in memory: their replies and how they end.
 
+mod failing;
 mod files;
 
 use super::take::{PIECE, SCRIPT_LIMIT};
@@ -232,6 +233,8 @@ fn a_line_may_have_4096_bytes_beside_its_end(rt: HostRuntime) -> Result<(), Fail
         (4096, "\r\n", ""),
         (4097, "\n", "no line\n"),
         (4096, "\r\r\n", "no line\n"),
+        (200_000, "\ninput a 2\n", "no line\nok 0\n"),
+        (200_000, "", "no line\n"),
     ];
     for (count, end, reply) in lines {
         let mut script = spaces(alloc, count)?;
@@ -246,49 +249,62 @@ fn a_line_may_have_4096_bytes_beside_its_end(rt: HostRuntime) -> Result<(), Fail
     Ok(())
 }
 
-#[test]
-fn a_source_that_fails_in_mid_stream_leaves_nothing_written(rt: HostRuntime) -> Result<(), Fail> {
-    let alloc = rt.alloc();
-    let words = words_of(alloc, &["evm", "run"])?;
-    let mut failing = Vec::new(alloc);
-    failing.push(1)?;
-    let mut input = MemSource::new(bytes_of(alloc, "input a 2\ntogg")?, 14, failing);
-    let mut output = MemSink::new(alloc, 64, Vec::new(alloc))?;
-    let status = evm_main(
-        alloc,
-        words.as_slice(),
-        &mut input,
-        &mut output,
-        &mut no_files(alloc),
-    );
-    assert_eq!(rt; status, Status::ReadFault);
-    assert_eq!(rt; output.bytes().len(), 0);
-    Ok(())
-}
+/// What stands for no call: more than a run makes.
+const NEVER: u64 = 99;
+
+/// How many bytes a call of the source gives, which of its calls fails, and how much room the sink has; then a script, what is
+/// written, and how the run ends. Its last line may lack its LF.
+const CUT: [(usize, u64, usize, &str, &str, Status); 6] = [
+    (14, 1, 64, "input a 2\ntogg", "ok 0\n", Status::ReadFault),
+    (
+        PIECE,
+        NEVER,
+        8,
+        "input a 2\ntoggle a 0 0 2 3\nshow a\n",
+        "ok 0\nok ",
+        Status::WriteFault,
+    ),
+    (
+        PIECE,
+        NEVER,
+        7,
+        "input a 2\ninput a 2",
+        "ok 0\nno",
+        Status::WriteFault,
+    ),
+    (
+        1,
+        NEVER,
+        64,
+        "input a 2\r\nshow a",
+        "ok 0\nok 2 0\n",
+        Status::Done,
+    ),
+    (
+        1,
+        11,
+        64,
+        "input a 2\r\nshow a",
+        "ok 0\n",
+        Status::ReadFault,
+    ),
+    (1, 10, 64, "input a 2\r\nshow a", "", Status::ReadFault),
+];
 
 #[test]
-fn a_sink_that_fails_cuts_the_replies(rt: HostRuntime) -> Result<(), Fail> {
+fn a_call_that_fails_cuts_the_replies(rt: HostRuntime) -> Result<(), Fail> {
     let alloc = rt.alloc();
     let words = words_of(alloc, &["evm", "run"])?;
-    // The number of the call that fails, the room, and what is written then.
-    for (number, room, written) in [(0, 64, ""), (1, 64, "ok 0\n"), (9, 7, "ok 0\nok")] {
-        let script = bytes_of(alloc, "input a 2\ntoggle a 0 0 2 3\nshow a\n")?;
-        let mut failing = Vec::new(alloc);
-        failing.push(number)?;
-        let mut input = MemSource::new(script, PIECE, Vec::new(alloc));
-        let mut output = MemSink::new(alloc, room, failing)?;
-        let status = evm_main(
-            alloc,
-            words.as_slice(),
-            &mut input,
-            &mut output,
-            &mut no_files(alloc),
-        );
-        assert_eq!(rt; status, Status::WriteFault, "at call {number}");
+    for (piece, failing, room, script, written, end) in CUT {
+        let mut input = MemSource::new(bytes_of(alloc, script)?, piece, vec![in alloc; failing]?);
+        let mut output = MemSink::new(alloc, room, Vec::new(alloc))?;
+        let mut shelf = no_files(alloc);
+        let status = evm_main(alloc, words.as_slice(), &mut input, &mut output, &mut shelf);
+        assert_eq!(rt; status, end, "at {script:?}");
         assert_eq!(rt;
             str::from_utf8(output.bytes()),
             Ok(written),
-            "at call {number}"
+            "at {script:?}"
         );
     }
     Ok(())
@@ -300,8 +316,10 @@ fn a_script_may_be_as_long_as_the_limit(rt: HostRuntime) -> Result<(), Fail> {
     let (status, output) = run(alloc, spaces(alloc, SCRIPT_LIMIT)?)?;
     assert_eq!(rt; str::from_utf8(output.bytes()), Ok("no line\n"));
     assert_eq!(rt; status, Status::Refused);
-    let (status, output) = run(alloc, spaces(alloc, SCRIPT_LIMIT + 1)?)?;
-    assert_eq!(rt; output.bytes().len(), 0);
+    let mut script = bytes_of(alloc, "input a 2\n")?;
+    script.extend_from_slice(spaces(alloc, SCRIPT_LIMIT - 9)?.as_slice())?;
+    let (status, output) = run(alloc, script)?;
+    assert_eq!(rt; str::from_utf8(output.bytes()), Ok("ok 0\n"));
     assert_eq!(rt; status, Status::TooLong);
     Ok(())
 }

@@ -2,11 +2,12 @@
 
 ghost use Rattle.std.specs.Prelude.{◌≡◌, ◌↔◌, map, IfSome, false, string_bytes};
 ghost use Rattle.evm_session.specs.Answers.{shelf_view};
-ghost use Rattle.evm_tool.specs.Top.{is_run, Runs, ReadFaults, WriteFaults, Completes, cut_status, exit_code};
+ghost use Rattle.evm_tool.specs.Top.{is_run, Runs, ReadFaults, WriteFaults, Completes, exit_code};
 
-use super::answers::answer_all;
-use super::take::{Cut, read_script};
+use super::script::answer_script;
+use super::take::new_buffer;
 use evm_outside::{Shelf, Sink, Source};
+use evm_session::Session;
 use std::alloc::Global;
 
 /// How a call of [`evm_main`] ended. The exit statuses are 0 to 6, in this order.
@@ -18,13 +19,14 @@ pub enum Status {
     Refused,
     /// The words are not those of a run.
     Words,
-    /// The source failed. No line was answered.
+    /// The source failed. The lines that an LF ended before were answered, and what follows the last LF was not.
     ReadFault,
-    /// The sink failed. Only a front of the replies was written, and the line whose reply was cut was carried out.
+    /// The sink failed. The lines before were answered whole; of one more reply only a front was written, and its line was
+    /// carried out.
     WriteFault,
-    /// No memory was left for the script or the session. No line was answered.
+    /// No memory was left for the buffers or the session. Nothing was read and no line was answered.
     NoMemory,
-    /// The script is longer than a script may be. No line was answered.
+    /// The script is longer than a script may be. Of the bytes that it may have, the lines that an LF ends were answered.
     TooLong,
 }
 
@@ -42,17 +44,6 @@ impl Status {
             Status::NoMemory => 5,
             Status::TooLong => 6,
         }
-    }
-}
-
-/// The status of a script that was not read whole.
-fn status_of(cut: Cut) -> Status
-    ensures { result ≡ cut_status cut }
-{
-    match cut {
-        Cut::Fault => Status::ReadFault,
-        Cut::TooLong => Status::TooLong,
-        Cut::NoMemory => Status::NoMemory,
     }
 }
 
@@ -75,10 +66,11 @@ fn names_run(words: &[String]) -> bool
 /// bits does not rise. At any line memory may be missing.
 ///
 /// `words` are those of the command line: the program's name, and `run`. A script has at most
-/// [`SCRIPT_LIMIT`](super::take::SCRIPT_LIMIT) bytes, and its lines end in LF or CR LF; the last may lack it. The
-/// replies go out in the order of the lines, each before the next line is answered. A line for which memory is
-/// missing has the reply `no memory`. Memory is taken for the script, one piece of it, one reply and the session,
-/// and for a file that a line loads or saves.
+/// [`SCRIPT_LIMIT`](super::take::SCRIPT_LIMIT) bytes, and its lines end in LF or CR LF; the last may lack it. It is read in pieces
+/// of at most [`PIECE`](super::take::PIECE) bytes. Each line is answered as soon as an LF ends it, and its reply is written whole
+/// before the next line is answered or more is read. A line for which memory is missing has the reply `no memory`. Before the
+/// first read memory is taken for the session and for a buffer of fixed size, which holds a piece and what is kept of the line
+/// before it; then for the reply of a line and for what a line does.
 ///
 /// `shelf` has the files of the lines `load` and `save`. A line saves to it before its reply is written.
 pub fn evm_main<I: Source, O: Sink, S: Shelf>(
@@ -88,8 +80,10 @@ pub fn evm_main<I: Source, O: Sink, S: Shelf>(
     output: &mut O,
     shelf: &mut S,
 ) -> Status
-    // Some bytes were taken, whatever the source tells of them, and the replies, the files and the shelf's counts are those of a
-    // run of these bytes: whole at status 0 and 1, a front of the replies at 4, else nothing.
+    // Some bytes were taken, whatever the source tells of them, and the first k of their lines were answered in order, with exactly
+    // this number k of marks: all at status 0 and 1; at 3 those that an LF ends; at 6 those that an LF ends among the bytes that a
+    // script may have; at 4 those up to the one whose reply was cut, and at most one piece was taken after it; none at 2 and 5,
+    // at which no byte was taken. Replies, files and the shelf's counts are those of the run of these k lines.
     ensures run { Runs result (I.left input.old) (I.left input.new) (O.written output.old) (O.written output.new)
         (shelf_view (S.files shelf.old) (S.faults shelf.old) (S.misses shelf.old))
         (shelf_view (S.files shelf.new) (S.faults shelf.new) (S.misses shelf.new)) }
@@ -98,17 +92,29 @@ pub fn evm_main<I: Source, O: Sink, S: Shelf>(
     // A fault is answered only where its count rose, and a count rises only then.
     ensures reads { ReadFaults result (I.faults input.old) (I.faults input.new) }
     ensures sends { WriteFaults result (O.faults output.old) (O.faults output.new) }
-    // A run of a script that is not too long is answered, unless a count rose or memory was missing.
+    // A run of a script that is not too long is answered, unless a count rose, or memory was missing before a byte was taken.
     ensures complete { IfSome (I.left input.old) (λ script.
         Completes result (map string_bytes words.now) script
+        (I.left input.old) (I.left input.new) (O.written output.old) (O.written output.new)
         (I.faults input.old) (I.faults input.new) (O.faults output.old) (O.faults output.new)) }
 {
     if !names_run(words) {
         return Status::Words;
     }
-    let mut script = Vec::new(alloc);
-    match read_script(alloc, input, &mut script) {
-        Ok(()) => answer_all(alloc, script.as_slice(), output, shelf),
-        Err(cut) => status_of(cut),
-    }
+    let Ok(mut session) = Session::new(alloc) else {
+        return Status::NoMemory;
+    };
+    let Ok(mut buffer) = new_buffer(alloc) else {
+        return Status::NoMemory;
+    };
+    let mut out = Vec::new(alloc);
+    answer_script(
+        alloc,
+        &mut session,
+        input,
+        buffer.as_mut_slice(),
+        shelf,
+        &mut out,
+        output,
+    )
 }

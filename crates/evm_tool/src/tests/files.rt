@@ -147,7 +147,7 @@ const LOADED: [(&[u8], &str, &str); 11] = [
 ];
 
 /// Forms, and files that are none of the form in dimension 2.
-const NO_FORM: [(&str, &[u8]); 25] = [
+const NO_FORM: [(&str, &[u8]); 32] = [
     // A head without rows, and one that states more rows than any file has.
     ("evm", b"NEVM\x01\x02\0\0\0\0\0\0\0\0\0\x04"),
     ("evm", b"NEVM\x01\x02\0\0\xff\xff\xff\xff\xff\xff\xff\xff"),
@@ -186,6 +186,11 @@ const NO_FORM: [(&str, &[u8]); 25] = [
         "evm",
         b"NEVM\x02\x02\0\0\0\0\0\x02\0\0\0\0\0\0\0\x02\0\0\0\0\0\0\0\x03\0\0\0\x02\0\0\0\x02\0\0\0\0\0\0\0",
     ),
+    (
+        "evm",
+        b"NEVM\x01\x02\0\0\0\0\0\0\0\0\0\x04\0\0\0\0\0\0\0\0\0\0\0\0\0\0\0\x03\0\0\0\x02\0\0\0\0\0\0\0\x02\0\0\0\x03\0",
+    ),
+    ("evm", b""),
     // A line with too few numbers, an empty box, no first line, and another dimension.
     (
         "boxes",
@@ -198,20 +203,40 @@ const NO_FORM: [(&str, &[u8]); 25] = [
     ("boxes", b""),
     ("boxes", b"# note\nevm-boxes 1 2\n"),
     ("boxes", b"evm-boxes 1 3\n"),
+    ("boxes", b"evm-boxes 1 9\n"),
+    ("boxes", b"evm-boxes 2 2\n"),
     // The last sample is missing, a second image, no image, and a sample of three bytes.
     ("pgm 128", b"P5\n# scan\n2 2\n255\n\0\xc8\xc8"),
     ("pgm 128", b"P5 2 1 255\n\xc8\0\nP5 2 1 255\n\xc8\xc8\n"),
     ("pgm 128", b""),
     ("pgm 128", b"P5 1 1 65536\n\0\x01\0"),
+    // A width that no grid has, samples that are not there, and no width.
+    (
+        "pgm 128",
+        b"P5 10000000000000000000000000000000000000000 1 255\n",
+    ),
+    ("pgm 128", b"P5 524288 524288 65535\n"),
+    ("pgm 128", b"P5 0 1 255\n"),
     // Samples of ten bits, no frame, and two widths.
     ("y4m 128", b"YUV4MPEG2 W2 H2 C420p10\n"),
     ("y4m 128", b"YUV4MPEG2 W2 H2 Cmono\n"),
     ("y4m 128", b"YUV4MPEG2 W2 W2 H2\n"),
 ];
 
+/// Streams that are none: a head of a frame that is too long, and a frame without its last byte.
+const NO_STREAM: [&[u8]; 2] = [
+    b"YUV4MPEG2 W2 H2\nFRAMES\n",
+    b"YUV4MPEG2 W2 H2\nFRAME\n\xff\xff\xff",
+];
+
 /// The number of the call that fails, scripts of which some lines are refused, and the replies. The file `f` is that of
 /// the box.
-const REFUSED: [(u64, &str, &str); 7] = [
+const REFUSED: [(u64, &str, &str); 8] = [
+    (
+        0,
+        "input a 2 / toggle a 0 0 2 3 / save a evm a.evm / save a evm a.evm",
+        "ok 0 / ok 1 / no shelf / ok 44",
+    ),
     (
         0,
         "input a 2 / add a 0 0 1 1 / load a evm f / content a / load a evm f / content a",
@@ -269,6 +294,17 @@ fn a_load_puts_the_solid_of_a_file_in_place_of_the_input(rt: HostRuntime) -> Res
         let replies = "ok 0 / ok 1 / no form / ok 1";
         expect(&rt, &mut shelf, script.as_str(), replies, Status::Refused)?;
         assert_eq!(rt; shelf.get(b"f"), Some(bytes), "at {form} {bytes:?}");
+    }
+    for bytes in NO_STREAM {
+        let mut shelf = shelf_of(alloc, bytes, NEVER)?;
+        let script = "input a 3 / add a 0 0 0 1 1 1 / load a y4m 128 f / content a";
+        expect(
+            &rt,
+            &mut shelf,
+            script,
+            "ok 0 / ok 1 / no form / ok 1",
+            Status::Refused,
+        )?;
     }
     Ok(())
 }

@@ -1,0 +1,101 @@
+-- A script that was answered, from a new session on, is a run.
+use Rattle.std.proofs.Common.{◌≡◌, ℕ, ◌+◌, ◌≤◌, Bool, true, false, ◌||◌, List, [], ◌∷◌, ◌++◌, length, take, refl, sym, ◌∙◌, ap, subst, arith, append_assoc, Option, Some, None, IfSome, Err}
+use Rattle.std.proofs.lemmas.List.{take_at, length-append}
+use Rattle.evm_model.specs.Scene.{start}
+use Rattle.evm_model.specs.Runs.{run, texts}
+use Rattle.evm_session.specs.Answers.{ShelfView}
+use Rattle.evm_text.specs.Lines.{lines}
+use Rattle.evm_tool.specs.EndedLines.{ended_lines}
+use Rattle.evm_tool.specs.Script.{Answered, StopsIn}
+use Rattle.evm_tool.specs.Served.{State, Served, Progress}
+use Rattle.evm_tool.specs.Streams.{script_limit}
+use Rattle.evm_tool.specs.Top.{first_world, Begins, Runs, StopsAt, ReadFaults, WriteFaults, Completes}
+use Rattle.evm_tool.specs.declared.top.Status.{Status}
+use Rattle.evm_tool.specs.declared.top.Status.TheVariants.{Done, Refused, Words, ReadFault, WriteFault, NoMemory, TooLong}
+use Rattle.evm_tool.proofs.Served.{progress_start, served_progress, answers_of, CutsAt, progress_cut}
+
+all_served : (ls : List (List ℕ)) (some : Bool) (s t : State) → s.scene ≡ start → Served ls some s t → Progress ls [] t.scene s.written t.written some s.shelf t.shelf
+all_served ls some s t e v = served_progress [] ls false some s t s.written s.shelf (progress_start [] s.scene s.written s.shelf e) v
+
+front_of : (ls later : List (List ℕ)) (line : List ℕ) (count : ℕ) → count ≡ length ls → ls ++ line ∷ [] ≡ take (count + 1) (ls ++ line ∷ later)
+front_of ls later line count e =
+    sym (ap (take (count + 1)) (sym (append_assoc ls (line ∷ []) later)) ∙ take_at (ls ++ line ∷ []) later (count + 1) (omega (arith, length-append ls (line ∷ []), e)))
+
+stops_at : (left_now : Option (List ℕ)) (taken : List ℕ) (s t : State) (w : StopsIn left_now taken s t)
+    → (cut : CutsAt (lines taken) (length w.ls) s.written t.written s.shelf t.shelf) → StopsAt left_now taken cut.gained s.shelf t.shelf
+stops_at left_now taken s t w cut = record {
+  begins = cut.begins;
+  upto = w.upto;
+  after = w.after;
+  whole = w.whole;
+  here = w.to_here ∙ front_of w.ls w.later w.line (length cut.begins.marks) cut.counted ∙ ap (take (length cut.begins.marks + 1)) (sym w.here);
+  ended = w.ended;
+  near = w.near;
+}
+
+pub runs_of : (status : Status) (left left_now : Option (List ℕ)) (s t : State) → s.scene ≡ start → Answered status left left_now s t → Runs status left left_now s.written t.written s.shelf t.shelf
+runs_of Done left left_now s t e v =
+    let p = all_served (lines v.0) false s t e v.2 in
+    record {
+      taken = v.0;
+      takes = v.1;
+      gained = texts (run (first_world s.shelf) (lines v.0) p.marks);
+      appended = p.text;
+      writes = answers_of (lines v.0) t.scene s.written t.written false s.shelf t.shelf p;
+    }
+runs_of Refused left left_now s t e v =
+    let p = all_served (lines v.0) true s t e v.2 in
+    record {
+      taken = v.0;
+      takes = v.1;
+      gained = texts (run (first_world s.shelf) (lines v.0) p.marks);
+      appended = p.text;
+      writes = answers_of (lines v.0) t.scene s.written t.written true s.shelf t.shelf p;
+    }
+runs_of Words left left_now s t e v = absurd v
+runs_of ReadFault left left_now s t e v =
+    let ls = ended_lines v.0 in
+    let some = v.3.0 in
+    let p = all_served ls some s t e v.3.1 in
+    record {
+      taken = v.0;
+      takes = (v.1, v.2);
+      gained = texts (run (first_world s.shelf) ls p.marks);
+      appended = p.text;
+      writes = (some, answers_of ls t.scene s.written t.written some s.shelf t.shelf p);
+    }
+runs_of WriteFault left left_now s t e v =
+    let w = v.3 in
+    let p = all_served w.ls w.some s w.between e w.served in
+    let cut = subst (λ (all : List (List ℕ)). CutsAt all (length w.ls) s.written t.written s.shelf t.shelf) (sym w.here)
+    (progress_cut w.ls w.line w.later w.between.scene t.scene s.written w.between.written t.written w.some w.failed s.shelf w.between.shelf t.shelf p w.last) in
+    record { taken = v.0; takes = (v.1, v.2); gained = cut.gained; appended = cut.appended; writes = stops_at left_now v.0 s t w cut }
+runs_of NoMemory left left_now s t e v = absurd v
+runs_of TooLong left left_now s t e v =
+    let ls = ended_lines (take script_limit v.0) in
+    let some = v.3.0 in
+    let p = all_served ls some s t e v.3.1 in
+    record {
+      taken = v.0;
+      takes = (v.1, v.2);
+      gained = texts (run (first_world s.shelf) ls p.marks);
+      appended = p.text;
+      writes = (some, answers_of ls t.scene s.written t.written some s.shelf t.shelf p);
+    }
+
+-- a script that is not too long was answered where no device failed
+completes_told : (status : Status) (script : List ℕ) (left_now : Option (List ℕ)) (s t : State) (words : List (List ℕ)) (r q w v : ℕ) → Answered status (Some script) left_now s t → ReadFaults status r q
+    → WriteFaults status w v → Completes status words script (Some script) left_now s.written t.written r q w v
+completes_told Done script left_now s t words r q w v a reads sends = λ run short no_read no_write. tt
+completes_told Refused script left_now s t words r q w v a reads sends = λ run short no_read no_write. tt
+completes_told Words script left_now s t words r q w v a reads sends = absurd a
+completes_told ReadFault script left_now s t words r q w v a reads sends = λ run short no_read no_write. no_read reads
+completes_told WriteFault script left_now s t words r q w v a reads sends = λ run short no_read no_write. no_write sends
+completes_told NoMemory script left_now s t words r q w v a reads sends = absurd a
+completes_told TooLong script None s t words r q w v a reads sends = absurd a.1
+completes_told TooLong script (Some now) s t words r q w v a reads sends = λ run short no_read no_write. omega (arith, ap length a.1, length-append a.0 now, a.2, short)
+
+pub completes_of : (status : Status) (left left_now : Option (List ℕ)) (s t : State) (words : List (List ℕ)) (r q w v : ℕ) → Answered status left left_now s t → ReadFaults status r q → WriteFaults status w v
+    → IfSome left (λ script. Completes status words script left left_now s.written t.written r q w v)
+completes_of status None left_now s t words r q w v a reads sends = tt
+completes_of status (Some script) left_now s t words r q w v a reads sends = completes_told status script left_now s t words r q w v a reads sends
