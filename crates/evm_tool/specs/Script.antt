@@ -51,7 +51,8 @@ Answered Done left left_now old new = (taken : List ℕ) × TakesAll left left_n
 Answered Refused left left_now old new = (taken : List ℕ) × TakesAll left left_now taken × Served (lines taken) true old new
 Answered Words left left_now old new = ⊥
 Answered ReadFault left left_now old new =
-    (taken : List ℕ) × Consumes left left_now taken × (length taken ≤ script_limit) × ((some : Bool) × Served (ended_lines taken) some old new)
+    (taken : List ℕ) × Consumes left left_now taken × (length taken ≤ script_limit)
+    × ((some : Bool) × Served (ended_lines taken) some old new)
 Answered WriteFault left left_now old new =
     (taken : List ℕ) × Consumes left left_now taken × (length taken ≤ script_limit) × StopsIn left_now taken old new
 Answered NoMemory left left_now old new = ⊥

@@ -33,7 +33,8 @@ MissesOver (No Memory) before now = MayClimb before now
 MissesOver reply before now = now ≡ before
 
 -- with one of the marks that a line may have, its reply went out, and the scene and the shelf are those after it
-pub record Serves (result : Result Bool Failed) (old new : Scene) (before now : Option (List ℕ)) (line : List ℕ) (shelf_old shelf_new : ShelfView) : Type 0 where
+pub record Serves (result : Result Bool Failed) (old new : Scene) (before now : Option (List ℕ)) (line : List ℕ)
+    (shelf_old shelf_new : ShelfView) : Type 0 where
   pub mark : Mark
   pub allowed : may_have (is_some shelf_old.files) (world_of old shelf_old.files) line mark ≡ true
   pub scene : new ≡ (answer (world_of old shelf_old.files) line mark).world.scene
@@ -44,7 +45,8 @@ pub record Serves (result : Result Bool Failed) (old new : Scene) (before now : 
   pub misses : MissesOver (answer (world_of old shelf_old.files) line mark).reply shelf_old.misses shelf_new.misses
 
 -- of these lines all but the rest were answered, and some reply refused or none did
-pub record Progress (ls rest : List (List ℕ)) (scene : Scene) (before now : Option (List ℕ)) (some : Bool) (shelf_before shelf_now : ShelfView) : Type 0 where
+pub record Progress (ls rest : List (List ℕ)) (scene : Scene) (before now : Option (List ℕ)) (some : Bool)
+    (shelf_before shelf_now : ShelfView) : Type 0 where
   pub marks : List Mark
   pub most : length marks ≤ length ls
   pub left : drop (length marks) ls ≡ rest
@@ -70,7 +72,8 @@ ServesFrom result line old new = Serves result old.scene new.scene old.written n
 abbrev pub Served : List (List ℕ) → Bool → State → State → Type 0
 Served [] some old new = (new ≡ old) × (some ≡ false)
 Served (line ∷ more) some old new =
-    (between : State) × (fine : Bool) × (later : Bool) × ServesFrom (Ok fine) line old between × Served more later between new × (some ≡ not fine || later)
+    (between : State) × (fine : Bool) × (later : Bool) × ServesFrom (Ok fine) line old between
+    × Served more later between new × (some ≡ not fine || later)
 
 -- the front of a text is lines that were served, each with an LF behind it, and this is the rest
 pub record ServesFront (text rest : List ℕ) (some : Bool) (old new : State) : Type 0 where

@@ -169,7 +169,8 @@ IsAnswered NoMemory left left_now written written_now = Keeps left left_now × K
 IsAnswered TooLong left left_now written written_now = ⊥
 
 -- a run of a script that is not too long is answered where neither the source nor the sink failed
-abbrev pub Completes : Status → List (List ℕ) → List ℕ → Option (List ℕ) → Option (List ℕ) → Option (List ℕ) → Option (List ℕ) → ℕ → ℕ → ℕ → ℕ → Type 0
+abbrev pub Completes : Status → List (List ℕ) → List ℕ → Option (List ℕ) → Option (List ℕ) → Option (List ℕ) → Option (List ℕ)
+    → ℕ → ℕ → ℕ → ℕ → Type 0
 Completes status words script left left_now written written_now read_before read_now write_before write_now =
     is_run words ≡ true
     → length script ≤ script_limit

@@ -19,10 +19,10 @@ fn answer_last<O: Sink, S: Shelf>(
     alloc: Global,
     session: &mut Session,
     line: &[u8],
+    refused: bool,
     shelf: &mut S,
     out: &mut Vec<u8>,
     output: &mut O,
-    refused: bool,
 ) -> Status
     ensures served { ServesLast result line.now refused
         (state_of session.old (O.written output.old)
@@ -69,7 +69,7 @@ pub fn answer_script<I: Source, O: Sink, S: Shelf>(
             return Status::ReadFault;
         };
         if count == 0 {
-            return answer_last(alloc, session, &buffer[..kept], shelf, out, output, refused);
+            return answer_last(alloc, session, &buffer[..kept], refused, shelf, out, output);
         }
         let end = kept + count;
         let Ok((left, some)) = answer_ended(alloc, session, &buffer[..end], shelf, out, output)
@@ -84,7 +84,7 @@ pub fn answer_script<I: Source, O: Sink, S: Shelf>(
         return Status::ReadFault;
     };
     if count == 0 {
-        return answer_last(alloc, session, &buffer[..kept], shelf, out, output, refused);
+        return answer_last(alloc, session, &buffer[..kept], refused, shelf, out, output);
     }
     Status::TooLong
 }

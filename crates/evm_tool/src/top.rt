@@ -58,8 +58,8 @@ fn names_run(words: &[String]) -> bool
 }
 
 /// Whatever script it is given, `evm run` answers each line, after every accepted or refused edit before it, exactly as its
-/// formulas evaluated anew on sets of unit cells answer: vertices, content, boundary content, sections and projections; a
-/// refused edit changes nothing; and two solids of one dimension are saved in equal bytes exactly if they are equal point sets.
+/// formulas evaluated anew on sets of unit cells answer: vertices, content, boundary content, sections, projections and components;
+/// a refused edit changes nothing; and two solids of one dimension are saved in equal bytes exactly if they are equal point sets.
 ///
 /// Premises: a source, a sink or a shelf that tells nothing of its bytes leaves open which bytes were read, have arrived or lie
 /// in files; only that the run is one of some bytes is then known. A count of faults that stands at the last value of its 64
