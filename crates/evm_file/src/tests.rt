@@ -69,7 +69,10 @@ fn refuses_headers(rt: HostRuntime) {
     let none: [u8; 0] = [];
     assert_eq!(rt; read(rt.alloc(), &none).err(), Some(FileError::Head));
     assert_eq!(rt; read(rt.alloc(), &FIRST[..15]).err(), Some(FileError::Head));
-    assert_eq!(rt; read(rt.alloc(), &FIRST[..47]).err(), Some(FileError::Length));
+    assert_eq!(rt;
+        read(rt.alloc(), &FIRST[..47]).err(),
+        Some(FileError::Length)
+    );
     assert_eq!(rt; read(rt.alloc(), &BOX[..7]).err(), Some(FileError::Head));
     assert_eq!(rt; read(rt.alloc(), &BOX[..8]).err(), Some(FileError::Length));
     assert_eq!(rt; read(rt.alloc(), &BOX[..43]).err(), Some(FileError::Length));
@@ -80,11 +83,7 @@ fn refuses_headers(rt: HostRuntime) {
 }
 
 // The refusal of the bytes with these numbers behind them.
-fn refusal(
-    alloc: Global,
-    front: &[u8],
-    numbers: &[i32],
-) -> Result<Option<FileError>, AllocError> {
+fn refusal(alloc: Global, front: &[u8], numbers: &[i32]) -> Result<Option<FileError>, AllocError> {
     let mut bytes = Vec::from_slice(alloc, front)?;
     for number in numbers {
         bytes.extend_from_slice(&number.to_be_bytes())?;
@@ -99,22 +98,58 @@ fn refuses_rows(rt: HostRuntime) {
     let table: [(&[u8], &[i32], Option<FileError>); 16] = [
         (first, &[4, 0, 0, 0, 3, 2, 0, 2, 3], None),
         (first, &[3, 0, 0, 0, 3, 2, 0], Some(FileError::Odd(1))),
-        (first, &[5, 0, 0, 0, 3, 2, 0, 2, 3, 2, 3], Some(FileError::Order(4))),
-        (first, &[4, 0, 3, 0, 0, 2, 0, 2, 3], Some(FileError::Order(1))),
-        (first, &[2, 0, 0, 0, 1_073_741_825], Some(FileError::Range(1))),
+        (
+            first,
+            &[5, 0, 0, 0, 3, 2, 0, 2, 3, 2, 3],
+            Some(FileError::Order(4)),
+        ),
+        (
+            first,
+            &[4, 0, 3, 0, 0, 2, 0, 2, 3],
+            Some(FileError::Order(1)),
+        ),
+        (
+            first,
+            &[2, 0, 0, 0, 1_073_741_825],
+            Some(FileError::Range(1)),
+        ),
         (
             second,
             &[2, -1_073_741_824, 2, -1, 0, 1_073_741_824, 2, -1, 0],
             None,
         ),
-        (second, &[3, 0, 1, 0, 0, 1, 3, 2, 2, 0, 3], Some(FileError::Order(1))),
-        (second, &[3, 0, 2, 0, 3, 1, 0, 2, 2, 0, 3], Some(FileError::Empty(2))),
+        (
+            second,
+            &[3, 0, 1, 0, 0, 1, 3, 2, 2, 0, 3],
+            Some(FileError::Order(1)),
+        ),
+        (
+            second,
+            &[3, 0, 2, 0, 3, 1, 0, 2, 2, 0, 3],
+            Some(FileError::Empty(2)),
+        ),
         (second, &[1, 0, 2, 0, 3], Some(FileError::Odd(1))),
-        (second, &[2, 0, 2, 3, 0, 2, 2, 0, 3], Some(FileError::Order(1))),
-        (second, &[2, 0, 2, 0, 3, 2, 2, 0, 0], Some(FileError::Order(3))),
-        (second, &[2, 2, 2, 0, 3, 0, 2, 0, 3], Some(FileError::Order(2))),
+        (
+            second,
+            &[2, 0, 2, 3, 0, 2, 2, 0, 3],
+            Some(FileError::Order(1)),
+        ),
+        (
+            second,
+            &[2, 0, 2, 0, 3, 2, 2, 0, 0],
+            Some(FileError::Order(3)),
+        ),
+        (
+            second,
+            &[2, 2, 2, 0, 3, 0, 2, 0, 3],
+            Some(FileError::Order(2)),
+        ),
         (second, &[2, 0, 1, 0, 2, 1, 0], Some(FileError::Odd(2))),
-        (second, &[2, 0, 2, 3, 0, 2, 2, 0, 1_073_741_825], Some(FileError::Range(3))),
+        (
+            second,
+            &[2, 0, 2, 3, 0, 2, 2, 0, 1_073_741_825],
+            Some(FileError::Range(3)),
+        ),
         (second, &[1, 0, 0], Some(FileError::Empty(0))),
         (second, &[0, 0], Some(FileError::Length)),
     ];

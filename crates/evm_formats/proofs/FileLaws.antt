@@ -70,11 +70,15 @@ versions v w e = let bad : 2 ≡ 1 = ap (λ (xs : List ℕ). slice_index xs 4) e
 
 pub statement : FilesByStatement
 statement bytes v are s = (
-  (λ e. nests v bytes s e,
-  λ h. second_is bytes h.seen h.second are.small h.read h.filled h.rises (along (stated_dim bytes) v.dim h.seen.rows v.rows h.dim h.rows s.vertices)
-      ∙ ap file_bytes (one_solid (record { dim = stated_dim bytes; rows = h.seen.rows }) v h.dim h.rows)),
-  (λ e. states v bytes s are.few e,
-  λ h. file_is bytes h.framed.0 h.framed.1 are.small ∙ ap first_file_bytes (one_solid (stated bytes) v h.dim h.rows)),
+  (
+    λ e. nests v bytes s e,
+    λ h. second_is bytes h.seen h.second are.small h.read h.filled h.rises (along (stated_dim bytes) v.dim h.seen.rows v.rows h.dim h.rows s.vertices)
+        ∙ ap file_bytes (one_solid (record { dim = stated_dim bytes; rows = h.seen.rows }) v h.dim h.rows),
+  ),
+  (
+    λ e. states v bytes s are.few e,
+    λ h. file_is bytes h.framed.0 h.framed.1 are.small ∙ ap first_file_bytes (one_solid (stated bytes) v h.dim h.rows),
+  ),
 )
   where
     along : (n m : ℕ) (V W : List (List ℤ)) → n ≡ m → V ≡ W → IsVertexList m W → IsVertexList n V

@@ -76,7 +76,7 @@ read_heights below front zero last s = Some s
 read_heights below front (suc k) last s =
     if is_cut_off s then None
     else option_and_then (λ t. read_heights below front k (Some (next_height s)) t)
-        (below (front ++ next_height s ∷ []) (after_height last s))
+    (below (front ++ next_height s ∷ []) (after_height last s))
 
 -- a body of dimension n is read: a count, and so many heights, each with the body below it. None where the bytes end before
 unfoldable pub read_body : ℕ → List ℤ → Reading → Option Reading

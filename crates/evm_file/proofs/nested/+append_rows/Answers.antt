@@ -16,9 +16,13 @@ returns-then-bytes-lt4 t c = λ s v r o e.
 
 pub loop-left-init : goal.loop-left-init
 loop-left-init t c = λ s v r o e.
-    let p = c.split_at.ensures in
-    (after_count s, None, ap (drop 4) r ∙ sym p.back, o,
-    sym (scan_count c.args.dim c.read_u32-left.result c.args.bytes.now c.split_at.result.0.now (front_of c.args.front) s (let z = c.if-dim-eq0.false in omega arith) c.if-bytes-lt4.false r p.front c.read_u32-left.ensures) ∙ e)
+    let p = c.split_at.ensures in (
+      after_count s,
+      None,
+      ap (drop 4) r ∙ sym p.back,
+      o,
+      sym (scan_count c.args.dim c.read_u32-left.result c.args.bytes.now c.split_at.result.0.now (front_of c.args.front) s (let z = c.if-dim-eq0.false in omega arith) c.if-bytes-lt4.false r p.front c.read_u32-left.ensures) ∙ e,
+    )
 
 pub returns-then-rest-lt4 : goal.returns-then-rest-lt4
 returns-then-rest-lt4 t c = λ s v r o e.

@@ -20,8 +20,8 @@ loop-left-init t c =
       scans = λ front s i. (
         after_count s,
         tally_count c.args.tally c.after_count-so_far.result c.args.bytes.now c.split_at.result.1.now c.read_u32-left.result s i
-        (first_four s c.args.bytes.now c.split_at.result.0.now i.left p.front ∙ sym c.read_u32-left.ensures) p.back a.rows a.gap a.fall,
-        scan_count c.args.dim c.read_u32-left.result c.args.bytes.now c.split_at.result.0.now front s (let z = c.if-dim-eq0.false in omega arith) c.if-bytes-lt4.false i.left p.front c.read_u32-left.ensures
+            (first_four s c.args.bytes.now c.split_at.result.0.now i.left p.front ∙ sym c.read_u32-left.ensures) p.back a.rows a.gap a.fall,
+        scan_count c.args.dim c.read_u32-left.result c.args.bytes.now c.split_at.result.0.now front s (let z = c.if-dim-eq0.false in omega arith) c.if-bytes-lt4.false i.left p.front c.read_u32-left.ensures,
       );
     }
 
@@ -65,7 +65,10 @@ loop-left-preserved t c =
       scans = λ front s i.
           let (r, a, e) = c.loop-left.invariant.scans front s i in
           let below = tally_height c.loop-left.so_far c.after_height-inner.result rest c.split_at-in-loop-left.result.1.now last h r a (height_is r rest four h a.left p.front q) p.back b.rows b.gap b.fall in
-          let (u, x, y) = c.in-Some.ensures.scans (front ++ h ∷ []) (after_height last r) below in
-          (u, y, e ∙ scan_height (c.args.dim - 1) c.loop-left.left rest four front last h r (let z = c.loop-left-test.true in omega arith) c.if-rest-lt4.false a.left p.front q
-          ∙ below_read (c.args.dim - 1) (c.loop-left.left - 1) front h (read_body (c.args.dim - 1) (front ++ h ∷ []) (after_height last r)) u x);
+          let (u, x, y) = c.in-Some.ensures.scans (front ++ h ∷ []) (after_height last r) below in (
+            u,
+            y,
+            e ∙ scan_height (c.args.dim - 1) c.loop-left.left rest four front last h r (let z = c.loop-left-test.true in omega arith) c.if-rest-lt4.false a.left p.front q
+                ∙ below_read (c.args.dim - 1) (c.loop-left.left - 1) front h (read_body (c.args.dim - 1) (front ++ h ∷ []) (after_height last r)) u x,
+          );
     }

@@ -11,9 +11,11 @@ returns-in-None c =
 
 pub returns-then-rest-eq0 : goal.returns-then-rest-eq0
 returns-then-rest-eq0 c =
-    let (s, e, t) = c.in-Some.ensures.scans [] (unread c.args.bytes.now) (record { rows = refl; gap = refl; fall = refl; left = refl }) in
-    (s, whole_some c.args.dim c.args.bytes.now s e (ap length t.left ∙ c.if-rest-eq0.true),
-    record { rows = t.rows; gap = t.gap; fall = t.fall; left = t.left ∙ nil_from_length c.in-Some.rest.now c.if-rest-eq0.true })
+    let (s, e, t) = c.in-Some.ensures.scans [] (unread c.args.bytes.now) (record { rows = refl; gap = refl; fall = refl; left = refl }) in (
+      s,
+      whole_some c.args.dim c.args.bytes.now s e (ap length t.left ∙ c.if-rest-eq0.true),
+      record { rows = t.rows; gap = t.gap; fall = t.fall; left = t.left ∙ nil_from_length c.in-Some.rest.now c.if-rest-eq0.true },
+    )
 
 pub returns-else-rest-eq0 : goal.returns-else-rest-eq0
 returns-else-rest-eq0 c =
