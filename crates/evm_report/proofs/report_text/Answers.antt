@@ -1,0 +1,10 @@
+use Rattle.std.proofs.Common.{◌∙◌, ap, List, ℕ}
+use Rattle.std.proofs.lemmas.Result.{IfOk-weaker}
+use Rattle.serde_json.specs.Written.{compact_text, has_float}
+use Rattle.evm_report.proofs.Floats.{none}
+use Rattle.evm_report.proofs.report_text.Goals as goal
+
+pub returns : goal.returns
+returns c =
+    let same = c.in_ok-value.ensures in
+    IfOk-weaker c.to_string.result _ _ (λ s h. h (ap has_float same ∙ none c.args.report.now) ∙ ap compact_text same) c.to_string.ensures.text
