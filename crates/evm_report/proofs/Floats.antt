@@ -1,5 +1,5 @@
 -- No member of a report is a float.
-use Rattle.std.proofs.Common.{◌≡◌, ◌∙◌, ℤ, pos, negsuc, ℕ, false, List, [], ◌∷◌, map, refl, ap}
+use Rattle.std.proofs.Common.{◌≡◌, ℤ, pos, negsuc, ℕ, false, List, [], ◌∷◌, map, refl}
 use Rattle.std.specs.Borrow.{Bor}
 use Rattle.serde_json.specs.Data.{string}
 use Rattle.serde_json.specs.View.{items_of}

@@ -1,7 +1,7 @@
 -- The text of a report on a solid.
 use Rattle.std.specs.Prelude.{ℕ, ℤ, List, map, codes}
 use Rattle.std.specs.Borrow.{Bor}
-use Rattle.serde_json.specs.Data.{Data, Members, number, unsigned, string, array, object, member, no_members}
+use Rattle.serde_json.specs.Data.{Data, number, unsigned, string, array, object, member, no_members}
 use Rattle.serde_json.specs.Find.{of_integer}
 use Rattle.serde_json.specs.View.{items_of}
 use Rattle.serde_json.specs.Written.{compact_text}
