@@ -91,70 +91,53 @@ fn refusal(alloc: Global, front: &[u8], numbers: &[i32]) -> Result<Option<FileEr
     Ok(read(alloc, bytes.as_slice()).err())
 }
 
+// Numbers behind a header of version 1 in dimension 2: the count, and the rows; and what refuses them.
+const FIRST_NUMBERS: [(&[i32], Option<FileError>); 5] = [
+    (&[4, 0, 0, 0, 3, 2, 0, 2, 3], None),
+    (&[3, 0, 0, 0, 3, 2, 0], Some(FileError::Odd(1))),
+    (
+        &[5, 0, 0, 0, 3, 2, 0, 2, 3, 2, 3],
+        Some(FileError::Order(4)),
+    ),
+    (&[4, 0, 3, 0, 0, 2, 0, 2, 3], Some(FileError::Order(1))),
+    (&[2, 0, 0, 0, 1_073_741_825], Some(FileError::Range(1))),
+];
+
+// Numbers behind a header of version 2 in dimension 2: a body; and what refuses it.
+const SECOND_NUMBERS: [(&[i32], Option<FileError>); 11] = [
+    (
+        &[2, -1_073_741_824, 2, -1, 0, 1_073_741_824, 2, -1, 0],
+        None,
+    ),
+    (
+        &[3, 0, 1, 0, 0, 1, 3, 2, 2, 0, 3],
+        Some(FileError::Order(1)),
+    ),
+    (
+        &[3, 0, 2, 0, 3, 1, 0, 2, 2, 0, 3],
+        Some(FileError::Empty(2)),
+    ),
+    (&[1, 0, 2, 0, 3], Some(FileError::Odd(1))),
+    (&[2, 0, 2, 3, 0, 2, 2, 0, 3], Some(FileError::Order(1))),
+    (&[2, 0, 2, 0, 3, 2, 2, 0, 0], Some(FileError::Order(3))),
+    (&[2, 2, 2, 0, 3, 0, 2, 0, 3], Some(FileError::Order(2))),
+    (&[2, 0, 1, 0, 2, 1, 0], Some(FileError::Odd(2))),
+    (
+        &[2, 0, 2, 3, 0, 2, 2, 0, 1_073_741_825],
+        Some(FileError::Range(3)),
+    ),
+    (&[1, 0, 0], Some(FileError::Empty(0))),
+    (&[0, 0], Some(FileError::Length)),
+];
+
 #[test]
 fn refuses_rows(rt: HostRuntime) {
-    let first = &FIRST[..12];
-    let second = &BOX[..8];
-    let table: [(&[u8], &[i32], Option<FileError>); 16] = [
-        (first, &[4, 0, 0, 0, 3, 2, 0, 2, 3], None),
-        (first, &[3, 0, 0, 0, 3, 2, 0], Some(FileError::Odd(1))),
-        (
-            first,
-            &[5, 0, 0, 0, 3, 2, 0, 2, 3, 2, 3],
-            Some(FileError::Order(4)),
-        ),
-        (
-            first,
-            &[4, 0, 3, 0, 0, 2, 0, 2, 3],
-            Some(FileError::Order(1)),
-        ),
-        (
-            first,
-            &[2, 0, 0, 0, 1_073_741_825],
-            Some(FileError::Range(1)),
-        ),
-        (
-            second,
-            &[2, -1_073_741_824, 2, -1, 0, 1_073_741_824, 2, -1, 0],
-            None,
-        ),
-        (
-            second,
-            &[3, 0, 1, 0, 0, 1, 3, 2, 2, 0, 3],
-            Some(FileError::Order(1)),
-        ),
-        (
-            second,
-            &[3, 0, 2, 0, 3, 1, 0, 2, 2, 0, 3],
-            Some(FileError::Empty(2)),
-        ),
-        (second, &[1, 0, 2, 0, 3], Some(FileError::Odd(1))),
-        (
-            second,
-            &[2, 0, 2, 3, 0, 2, 2, 0, 3],
-            Some(FileError::Order(1)),
-        ),
-        (
-            second,
-            &[2, 0, 2, 0, 3, 2, 2, 0, 0],
-            Some(FileError::Order(3)),
-        ),
-        (
-            second,
-            &[2, 2, 2, 0, 3, 0, 2, 0, 3],
-            Some(FileError::Order(2)),
-        ),
-        (second, &[2, 0, 1, 0, 2, 1, 0], Some(FileError::Odd(2))),
-        (
-            second,
-            &[2, 0, 2, 3, 0, 2, 2, 0, 1_073_741_825],
-            Some(FileError::Range(3)),
-        ),
-        (second, &[1, 0, 0], Some(FileError::Empty(0))),
-        (second, &[0, 0], Some(FileError::Length)),
-    ];
-    for (front, numbers, want) in table {
-        let answer = refusal(rt.alloc(), front, numbers).expect(&rt, "memory");
+    for (numbers, want) in FIRST_NUMBERS {
+        let answer = refusal(rt.alloc(), &FIRST[..12], numbers).expect(&rt, "memory");
+        assert_eq!(rt; answer, want, "{numbers:?}");
+    }
+    for (numbers, want) in SECOND_NUMBERS {
+        let answer = refusal(rt.alloc(), &BOX[..8], numbers).expect(&rt, "memory");
         assert_eq!(rt; answer, want, "{numbers:?}");
     }
 }
