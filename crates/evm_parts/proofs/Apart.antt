@@ -49,7 +49,7 @@ labelled_apart n root labels boxes a = record {
   once = λ c. let p = λ (b : Ends). has (cells_in n b) c in let u = count_labelled p root labels boxes in let v = a.once c in omega (arith, u, v);
 }
 
-rest_apart : (n : ℕ) (b : Ends) (boxes : List Ends) → AreApart n (b ∷ boxes) → AreApart n boxes
+pub rest_apart : (n : ℕ) (b : Ends) (boxes : List Ends) → AreApart n (b ∷ boxes) → AreApart n boxes
 rest_apart n b boxes a = record {
   once = λ c. let p = λ (d : Ends). has (cells_in n d) c in let u = count-cons p b boxes in let v = a.once c in omega (arith, u, v);
 }
@@ -66,7 +66,7 @@ unfolding has
 has-none c = refl
 
 -- a cell that stands in no box is not in the union
-in_none : (n : ℕ) (boxes : List Ends) (c : List ℤ) → count_by (λ b. has (cells_in n b) c) boxes ≡ 0 → has (union_of n boxes) c ≡ false
+pub in_none : (n : ℕ) (boxes : List Ends) (c : List ℤ) → count_by (λ b. has (cells_in n b) c) boxes ≡ 0 → has (union_of n boxes) c ≡ false
 in_none n [] c h = ap (λ (A : List (List ℤ)). has A c) (no_boxes n) ∙ has-none c
 in_none n (b ∷ boxes) c h =
     let p = λ (d : Ends). has (cells_in n d) c in
@@ -87,7 +87,7 @@ not_both n b boxes c a =
     at true u = let v = a.once c in in_none n boxes c (omega (arith, u, v))
     at false u = refl
 
-union_is_xor : (n : ℕ) (b : Ends) (boxes : List Ends) → AreApart n (b ∷ boxes) → xor_cells n (cells_in n b) (union_of n boxes) ≡ union_of n (b ∷ boxes)
+pub union_is_xor : (n : ℕ) (b : Ends) (boxes : List Ends) → AreApart n (b ∷ boxes) → xor_cells n (cells_in n b) (union_of n boxes) ≡ union_of n (b ∷ boxes)
 union_is_xor n b boxes a =
     let x = cell_set-xor n (cells_in n b) (union_of n boxes) in
     let u = cell_set-union n (b ∷ boxes) in

@@ -15,4 +15,5 @@ pub mod NestedSlabs
 pub mod Gathered
 pub mod Apart
 pub mod PartLists
-pub mod OnePart
+pub mod OtherBoxes
+pub mod Votes

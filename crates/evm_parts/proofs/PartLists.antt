@@ -1,5 +1,5 @@
 -- The parts, label after label.
-use Rattle.std.proofs.Common.{◌≡◌, ℕ, ◌+◌, ◌<◌, ◌≤◌, ◌%◌, ◌==◌, ⊎_elim, cond, ℤ, List, [], ◌∷◌, ◌++◌, map, filter, length, sym, ap, ◌∙◌, subst, arith, append-nil, eq-eqb, get_or, Vec, Global, All}
+use Rattle.std.proofs.Common.{◌≡◌, ◌≢◌, ℕ, ◌+◌, ◌<◌, ◌≤◌, ◌%◌, ◌==◌, ⊎_elim, cond, ℤ, Option, Some, List, [], ◌∷◌, ◌++◌, map, filter, length, sym, ap, ◌∙◌, subst, arith, append-nil, eq-eqb, get_or, Vec, Global, All}
 use Rattle.std.specs.List.{range_with_len}
 use Rattle.std.proofs.lemmas.Bool.Decides.{eqb_tells}
 use Rattle.std.proofs.lemmas.List.{map-append, get_or_default}
@@ -13,16 +13,16 @@ use Rattle.evm_cells.specs.Vertices.{evm}
 use Rattle.evm_cells.specs.Windows.{IsReduced}
 use Rattle.evm_cells.proofs.Universe.{points-evm}
 use Rattle.evm_cells.proofs.Unions.{cell_set-union}
-use Rattle.evm_rows.specs.Rows.{AreRows, rows_of, flat_of}
+use Rattle.evm_rows.specs.Rows.{rows_of, flat_of}
 use Rattle.evm_rows.proofs.Bridge.{wide-points}
 use Rattle.evm_rows.proofs.RowsOrder.{Wide, rows_of-flat_of, length-flat_of}
 use Rattle.evm_shapes.proofs.Shaped.{are_rows_of}
 use Rattle.evm_partition.specs.Partition.{partition}
 use Rattle.evm_parts.specs.Labels.{label_at, labelled, roots, AreLabels}
-use Rattle.evm_parts.specs.PartRows.{cells_in, rows_of_boxes, part_at, parts_at, AreApart, AreGathered, IsPartAppended}
+use Rattle.evm_parts.specs.PartRows.{cells_in, rows_of_boxes, part_at, parts_at, AreApart, AreGathered, IsUnion, IsPartAppended}
 use Rattle.evm_parts.proofs.Gathered.{numbers_in-read}
 use Rattle.evm_parts.proofs.Stretches.{AreListed, listed_more}
-use Rattle.evm_parts.proofs.Apart.{labelled_apart, reduced_is}
+use Rattle.evm_parts.proofs.Apart.{reduced_is}
 use Rattle.evm_parts.proofs.FloodParts.{parts_by_labels}
 use Rattle.evm_parts.proofs.Ranges.{range_more}
 
@@ -40,24 +40,23 @@ pub whole_rows : (n : ℕ) (boxes : List Ends) (flat : List ℤ) → flat ≡ fl
 whole_rows n boxes flat e =
     ap (λ (xs : List ℤ). length xs % n) e ∙ ap (λ (k : ℕ). k % n) (length-flat_of n (rows_of_boxes n boxes) (wide_rows n boxes)) ∙ mul-mod_left (length (rows_of_boxes n boxes)) n
 
--- ---- the rows of a part
+-- ---- the rows of a union
 
--- what is left of the rows of the boxes of a label
-pub record IsPart (n : ℕ) (boxes : List Ends) (labels : List ℕ) (root : ℕ) (flat : List ℤ) : Type 0 where
-  pub are_rows : AreRows flat n 0
-  pub rows : rows_of flat n 0 ≡ part_at n boxes labels root
-
-pub part_is : (n : ℕ) (boxes : List Ends) (labels : List ℕ) (root : ℕ) (rows flat : List ℤ) → 0 < n → n ≤ 6 → AreApart n boxes → rows ≡ flat_of (rows_of_boxes n (labelled root labels boxes))
-    → length flat % n ≡ 0 → IsReduced n (rows_of rows n 0) (rows_of flat n 0) → IsPart n boxes labels root flat
-part_is n boxes labels root rows flat some few a e whole r = record { are_rows = are_rows_of n flat (union_of n bs) some few whole (cell_set-union n bs) is; rows = is }
+-- what is left of the rows of boxes that stand apart
+pub union_is : (n : ℕ) (bs : List Ends) (rows flat : List ℤ) → 0 < n → n ≤ 6 → AreApart n bs → rows ≡ flat_of (rows_of_boxes n bs)
+    → length flat % n ≡ 0 → IsReduced n (rows_of rows n 0) (rows_of flat n 0) → IsUnion n bs flat
+union_is n bs rows flat some few a e whole r = record { are_rows = are_rows_of n flat (union_of n bs) some few whole (cell_set-union n bs) is; rows = is }
   where
-    bs : List Ends
-    bs = labelled root labels boxes
-
     is : rows_of flat n 0 ≡ evm n (union_of n bs)
     is =
-        reduced_is n bs (rows_of flat n 0) (labelled_apart n root labels boxes a)
+        reduced_is n bs (rows_of flat n 0) a
         (subst (λ (V : List (List ℤ)). IsReduced n V (rows_of flat n 0)) (ap (λ xs. rows_of xs n 0) e ∙ rows_of-flat_of n (rows_of_boxes n bs) some (wide_rows n bs)) r)
+
+-- the same, where a program read the dimension
+pub odd_union : (n m : ℕ) (bs : List Ends) (rows flat : List ℤ) → 0 < n → n ≤ 6 → m ≡ n → AreApart n bs → rows ≡ flat_of (rows_of_boxes n bs)
+    → length flat % m ≡ 0 → IsReduced m (rows_of rows m 0) (rows_of flat m 0) → IsUnion n bs flat
+odd_union n m bs rows flat some few d a e whole r =
+    union_is n bs rows flat some few a e (subst (λ (k : ℕ). length flat % k ≡ 0) d whole) (subst (λ (k : ℕ). IsReduced k (rows_of rows k 0) (rows_of flat k 0)) d r)
 
 -- ---- the labels in order
 
@@ -88,18 +87,16 @@ parts_same n boxes labels i o =
 -- ---- one label more
 
 -- the list of a label, as it is read
-pub list_is : (n : ℕ) (boxes : List Ends) (labels : List ℕ) (lists : List (Vec ℤ Global)) (i : ℕ) (v : Vec ℤ Global) (rows : List ℤ) → AreGathered n boxes labels lists → i < length labels
-    → v ≡ get_or lists i v → rows ≡ v.items → rows ≡ flat_of (rows_of_boxes n (labelled i labels boxes))
-list_is n boxes labels lists i v rows g l is e = let m = g.many in e ∙ numbers_in-read lists i v (omega (arith, l, m)) is ∙ g.rows i l
+pub list_is : (n : ℕ) (boxes : List Ends) (labels : List ℕ) (main : Option ℕ) (lists : List (Vec ℤ Global)) (i : ℕ) (v : Vec ℤ Global) (rows : List ℤ) → AreGathered n boxes labels main lists → i < length labels
+    → main ≢ Some i → v ≡ get_or lists i v → rows ≡ v.items → rows ≡ flat_of (rows_of_boxes n (labelled i labels boxes))
+list_is n boxes labels main lists i v rows g l other is e = let m = g.many in e ∙ numbers_in-read lists i v (omega (arith, l, m)) is ∙ g.rows i l other
 
-pub listed_part : (n m : ℕ) (boxes : List Ends) (labels : List ℕ) (i : ℕ) (rows flat new : List ℤ) (ends later : List ℕ) → 0 < n → n ≤ 6 → m ≡ n → AreApart n boxes
-    → rows ≡ flat_of (rows_of_boxes n (labelled i labels boxes)) → label_at labels i ≡ i → IsPartAppended m rows flat new ends later → AreListed n flat ends (parts_to n boxes labels i)
+pub listed_part : (n : ℕ) (boxes : List Ends) (labels : List ℕ) (i : ℕ) (part flat new : List ℤ) (ends later : List ℕ) → label_at labels i ≡ i
+    → IsUnion n (labelled i labels boxes) part → IsPartAppended part flat new ends later → AreListed n flat ends (parts_to n boxes labels i)
     → AreListed n new later (parts_to n boxes labels (i + 1))
-listed_part n m boxes labels i rows flat new ends later some few d a e own h l =
-    let g : IsPartAppended n rows flat new ends later = subst (λ (k : ℕ). IsPartAppended k rows flat new ends later) d h in
-    let p = part_is n boxes labels i rows g.added some few a e g.whole g.reduced in
+listed_part n boxes labels i part flat new ends later own p h l =
     subst (AreListed n new later) (sym (parts_more n boxes labels i own))
-    (listed_more n flat g.added new ends later (parts_to n boxes labels i) (part_at n boxes labels i) l p.are_rows p.rows g.numbers g.end)
+    (listed_more n flat part new ends later (parts_to n boxes labels i) (part_at n boxes labels i) l p.are_rows p.rows h.numbers h.end)
 
 -- ---- the labels of the boxes of the stated partition
 

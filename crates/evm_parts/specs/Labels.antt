@@ -1,5 +1,5 @@
 -- Which boxes of a list hang together, and their labels. Boxes are counted from 0.
-use Rattle.std.specs.Prelude.{◌≡◌, ℕ, ◌<◌, ◌≤◌, ◌==◌, true, List, [], ◌∷◌, filter, length, get_or, if◌then◌else◌}
+use Rattle.std.specs.Prelude.{◌≡◌, ℕ, ◌+◌, ◌<◌, ◌≤◌, ◌==◌, true, List, [], ◌∷◌, filter, length, count_by, get_or, if◌then◌else◌}
 use Rattle.std.specs.List.{range_with_len}
 use Rattle.evm_cells.specs.Unions.{Ends}
 use Rattle.evm_parts.specs.Neighbours.{are_neighbours}
@@ -42,3 +42,16 @@ roots labels = filter (λ i. label_at labels i == i) (range_with_len 0 (length l
 unfoldable pub labelled : ℕ → List ℕ → List Ends → List Ends
 labelled root (label ∷ labels) (b ∷ boxes) = if label == root then b ∷ labelled root labels boxes else labelled root labels boxes
 labelled root _ _ = []
+
+-- the other boxes, in order
+unfoldable pub unlabelled : ℕ → List ℕ → List Ends → List Ends
+unlabelled root (label ∷ labels) (b ∷ boxes) = if label == root then unlabelled root labels boxes else b ∷ unlabelled root labels boxes
+unlabelled root _ _ = []
+
+-- how many of the labels are this one
+abbrev pub votes_for : ℕ → List ℕ → ℕ
+votes_for label labels = count_by (λ other. other == label) labels
+
+-- more than half of them are
+pub record IsMost (labels : List ℕ) (label : ℕ) : Type 0 where
+  pub most : length labels < votes_for label labels + votes_for label labels

@@ -1,12 +1,11 @@
 -- The rows of the boxes of each label.
-use Rattle.std.specs.Prelude.{◌≡◌, ℕ, ◌<◌, ◌≤◌, ◌%◌, ℤ, List, [], ◌∷◌, ◌++◌, map, flat_map, length, count_by, slice_index_or}
+use Rattle.std.specs.Prelude.{◌≡◌, ◌≢◌, ℕ, ◌<◌, ◌≤◌, ℤ, Option, Some, List, [], ◌∷◌, ◌++◌, map, flat_map, length, count_by, slice_index_or}
 use Rattle.std.specs.Global.{Vec}
 use Rattle.evm_cells.specs.Places.{has}
 use Rattle.evm_cells.specs.Boxes.{box_cells}
 use Rattle.evm_cells.specs.Unions.{Ends, union_of}
 use Rattle.evm_cells.specs.Vertices.{evm}
-use Rattle.evm_cells.specs.Windows.{IsReduced}
-use Rattle.evm_rows.specs.Rows.{flat_of, rows_of}
+use Rattle.evm_rows.specs.Rows.{AreRows, flat_of, rows_of}
 use Rattle.evm_parts.specs.Labels.{labelled, roots}
 
 -- the cells of a box
@@ -25,10 +24,11 @@ pub record AreApart (n : ℕ) (boxes : List Ends) : Type 0 where
 abbrev pub numbers_in : List (Vec ℤ) → ℕ → List ℤ
 numbers_in lists i = slice_index_or (map (λ v. v.items) lists) i []
 
--- the list of each label has the rows of the boxes of the label; no more lists are there
-pub record AreGathered (n : ℕ) (boxes : List Ends) (labels : List ℕ) (lists : List (Vec ℤ)) : Type 0 where
+-- the list of each label but the main one has the rows of the boxes of the label; no more lists are there
+pub record AreGathered (n : ℕ) (boxes : List Ends) (labels : List ℕ) (main : Option ℕ) (lists : List (Vec ℤ)) : Type 0 where
   pub many : length lists ≡ length labels
-  pub rows : (root : ℕ) → root < length labels → numbers_in lists root ≡ flat_of (rows_of_boxes n (labelled root labels boxes))
+  pub rows : (root : ℕ) → root < length labels → main ≢ Some root
+      → numbers_in lists root ≡ flat_of (rows_of_boxes n (labelled root labels boxes))
 
 -- the extreme vertices of the union of the boxes of one label
 abbrev pub part_at : ℕ → List Ends → List ℕ → ℕ → List (List ℤ)
@@ -38,10 +38,12 @@ part_at n boxes labels root = evm n (union_of n (labelled root labels boxes))
 abbrev pub parts_at : ℕ → List Ends → List ℕ → List (List (List ℤ))
 parts_at n boxes labels = map (part_at n boxes labels) (roots labels)
 
--- the rows that stand an odd number of times were appended, and where they end
-pub record IsPartAppended (n : ℕ) (rows flat new : List ℤ) (ends later : List ℕ) : Type 0 where
-  pub added : List ℤ
-  pub numbers : new ≡ flat ++ added
+-- the numbers are the extreme vertices of the union of the boxes
+pub record IsUnion (n : ℕ) (boxes : List Ends) (flat : List ℤ) : Type 0 where
+  pub are_rows : AreRows flat n 0
+  pub rows : rows_of flat n 0 ≡ evm n (union_of n boxes)
+
+-- the numbers of a part were appended, and where they end
+pub record IsPartAppended (part flat new : List ℤ) (ends later : List ℕ) : Type 0 where
+  pub numbers : new ≡ flat ++ part
   pub end : later ≡ ends ++ length new ∷ []
-  pub whole : length added % n ≡ 0
-  pub reduced : IsReduced n (rows_of rows n 0) (rows_of added n 0)

@@ -6,6 +6,7 @@ mod labels;
 mod laws;
 mod lists;
 mod neighbours;
+mod remainder;
 mod rows;
 
 pub use components::parts;

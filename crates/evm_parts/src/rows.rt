@@ -2,9 +2,10 @@
 ghost use Rattle.std.specs.Prelude.{◌≡◌, ◌<◌, ◌≤◌, ◌++◌, [], length, All, IfOk, OnOk};
 ghost use Rattle.evm_rows.specs.Rows.{flat_of};
 ghost use Rattle.evm_cells.specs.Vertices.{evm};
-ghost use Rattle.evm_parts.specs.Labels.{box_at};
-ghost use Rattle.evm_parts.specs.PartRows.{cells_in, AreGathered};
+ghost use Rattle.evm_parts.specs.Labels.{box_at, unlabelled};
+ghost use Rattle.evm_parts.specs.PartRows.{cells_in, rows_of_boxes, AreGathered};
 
+use crate::remainder::is_main;
 use evm_partition::Boxes;
 use evm_rows::{BoxError, NoMemory, Solid};
 use std::alloc::{AllocError, Global};
@@ -45,22 +46,47 @@ fn append_box(
     }
 }
 
-/// For each label the rows of its boxes, one box after another; a row may stand in several. The other lists are empty.
+/// For each label but the main one the rows of its boxes, one box after another; a row may stand in several. The other lists are empty.
 ///
 /// Takes memory for each list and for the rows.
 pub(crate) fn rows_by_label(
     alloc: Global,
     boxes: &Boxes,
     labels: &[usize],
+    main: Option<usize>,
 ) -> Result<Vec<Vec<i32>>, NoMemory>
     requires high { boxes.now.dim ≤ 6 }
     requires many { length labels.now ≡ length boxes.now.boxes }
     requires within { All (λ label. label < length labels.now) labels.now }
-    ensures { IfOk result (λ v. AreGathered boxes.now.dim boxes.now.boxes labels.now v.items) }
+    ensures { IfOk result (λ v. AreGathered boxes.now.dim boxes.now.boxes labels.now main v.items) }
 {
     let mut lists = empty_lists(alloc, labels.len())?;
     for (index, label) in labels.iter().enumerate() {
-        append_box(alloc, boxes, index, &mut lists[*label])?;
+        if !is_main(main, *label) {
+            append_box(alloc, boxes, index, &mut lists[*label])?;
+        }
     }
     Ok(lists)
+}
+
+/// The rows of all boxes that do not have the label, one box after another; a row may stand in several. Takes memory for them.
+pub(crate) fn rows_of_others(
+    alloc: Global,
+    boxes: &Boxes,
+    labels: &[usize],
+    label: usize,
+) -> Result<Vec<i32>, NoMemory>
+    requires high { boxes.now.dim ≤ 6 }
+    requires many { length labels.now ≡ length boxes.now.boxes }
+    ensures { IfOk result
+        (λ v. v.items ≡ flat_of
+        (rows_of_boxes boxes.now.dim (unlabelled label labels.now boxes.now.boxes))) }
+{
+    let mut rows = Vec::new(alloc);
+    for (index, other) in labels.iter().enumerate() {
+        if *other != label {
+            append_box(alloc, boxes, index, &mut rows)?;
+        }
+    }
+    Ok(rows)
 }

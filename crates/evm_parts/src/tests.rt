@@ -41,8 +41,14 @@ fn has_parts(alloc: Global, whole: &[&[i32]], expected: &[&[&[i32]]]) -> bool {
     true
 }
 
-// Runs of a line; squares that meet at a corner; three cubes that share edges, in the order of their cells; a ring with a block inside;
-// two arms that a bar joins at their ends; a shell of four dimensions with a box inside; and nothing.
+// A block, and a ring after it, which has most of the boxes.
+const LATE: [&[i32]; 3] = [&[0, 0, 1, 1], &[2, 0, 5, 3], &[3, 1, 4, 2]];
+
+// Two arms that a bar joins at their ends.
+const ARMS: [&[i32]; 3] = [&[0, 0, 2, 1], &[0, 2, 2, 3], &[2, 0, 3, 3]];
+
+// Runs of a line; squares that meet at a corner; three cubes that share edges, in the order of their cells; a ring with a block inside,
+// and one after a block; two arms; a shell of four dimensions with a box inside; and nothing.
 #[test]
 fn solids_fall_into_parts(rt: HostRuntime) {
     let alloc = rt.alloc();
@@ -68,8 +74,11 @@ fn solids_fall_into_parts(rt: HostRuntime) {
         has_parts(alloc, &ring, &[&ring[..2], &ring[2..]]),
         "a ring"
     );
-    let arms: [&[i32]; 3] = [&[0, 0, 2, 1], &[0, 2, 2, 3], &[2, 0, 3, 3]];
-    assert!(rt; has_parts(alloc, &arms, &[&arms]), "two arms");
+    assert!(rt;
+        has_parts(alloc, &LATE, &[&LATE[..1], &LATE[1..]]),
+        "a late ring"
+    );
+    assert!(rt; has_parts(alloc, &ARMS, &[&ARMS]), "two arms");
     let shell: [&[i32]; 3] = [
         &[0, 0, 0, 0, 5, 5, 5, 5],
         &[1, 1, 1, 1, 4, 4, 4, 4],

@@ -1,16 +1,16 @@
 use Rattle.std.proofs.Common.{◌≡◌, ◌-◌, ◌<◌, ℕ, ℤ, List, map, All, IfOk, length, ap, ap₂, sym, ◌∙◌, subst}
 use Rattle.evm_cells.specs.Parts.{parts}
-use Rattle.evm_cells.specs.Unions.{Ends}
+use Rattle.evm_cells.specs.Unions.{Ends, union_of}
 use Rattle.evm_cells.specs.Vertices.{evm, cells}
 use Rattle.evm_cells.proofs.Universe.{cell_set-cells}
 use Rattle.evm_rows.specs.Rows.{rows_of}
 use Rattle.evm_rows.specs.View.{vertices_of}
 use Rattle.evm_partition.specs.Partition.{partition}
+use Rattle.evm_partition.proofs.Within.{union_of_partition}
 use Rattle.evm_parts.specs.Labels.{AreLabels}
 use Rattle.evm_parts.specs.PartRows.{parts_at, AreApart}
 use Rattle.evm_parts.proofs.Apart.{partition_apart}
 use Rattle.evm_parts.proofs.NestedSlabs.{nested_boxes}
-use Rattle.evm_parts.proofs.OnePart.{one_part}
 use Rattle.evm_parts.proofs.PartLists.{labels_within, all_parts}
 use Rattle.evm_parts.proofs.components.parts.Goals as goal
 
@@ -32,15 +32,12 @@ unions-requires-clause-apart c =
     subst (λ (k : ℕ). AreApart k c.in_ok-boxes.boxes.boxes) (sym c.in_ok-boxes.ensures.dim)
     (subst (AreApart n) (sym c.in_ok-boxes.ensures.boxes) (partition_apart n (cells n V) (cell_set-cells n V)))
 
-pub returns-then-are_one-clause-parts : goal.returns-then-are_one-clause-parts
-returns-then-are_one-clause-parts c =
+pub unions-requires-clause-whole : goal.unions-requires-clause-whole
+unions-requires-clause-whole c =
     let a = c.args.a in
     let n : ℕ = a.width - a.skip in
     let V : List (List ℤ) = rows_of a.flat.now a.width a.skip in
-    let labels = c.in_ok-lowest.lowest.items in
-    let are : AreLabels (partition n (cells n V)) labels = subst (λ (bs : List Ends). AreLabels bs labels) c.in_ok-boxes.ensures.boxes c.in_ok-lowest.ensures in
-    let h = subst (λ (ls : List ℕ). (0 < length ls) × All (λ label. label ≡ 0) ls) c.as_slice-roots.ensures.value (c.are_one.ensures.0 c.if-are_one.true) in
-    subst (λ Vs. IfOk c.whole.result (λ p. p.parts ≡ Vs)) (sym (one_part n V labels a.vertices are h.0 h.1)) c.whole.ensures.parts
+    ap₂ (λ (k : ℕ) (bs : List Ends). union_of k bs) c.in_ok-boxes.ensures.dim c.in_ok-boxes.ensures.boxes ∙ union_of_partition n (cells n V) (cell_set-cells n V)
 
 pub returns-clause-parts : goal.returns-clause-parts
 returns-clause-parts c =
