@@ -5,8 +5,9 @@ use Rattle.std.specs.List.{starts_with, join_with_byte}
 use Rattle.std.specs.Fmt.{signed_decimal}
 use Rattle.std.proofs.lemmas.List.{append_assoc}
 use Rattle.evm_model.specs.Figures.{Figure, CutFaces, vertices_in, content_of}
+use Rattle.evm_report.specs.Report.{report_text}
 use Rattle.evm_model.specs.Scene.{Entry}
-use Rattle.evm_model.specs.Replies.{Reply, Empty, No, Changed, Shown, Measured, Filled, Placed, Faced, Parted, Listed, reply_text, line_of, rows_text, spaced, cuts_text, part_text, parts_text, entry_words, entries_text, code_text, place_text, is_no}
+use Rattle.evm_model.specs.Replies.{Reply, Empty, No, Changed, Shown, Measured, Filled, Placed, Faced, Parted, Reported, Listed, reply_text, line_of, rows_text, spaced, cuts_text, part_text, parts_text, entry_words, entries_text, code_text, place_text, is_no}
 
 pub begins : (reply : Reply) → starts_with nat_eq (reply_text reply) (codes "no") ≡ is_no reply
 unfolding reply_text
@@ -19,6 +20,7 @@ begins (Filled full) = refl
 begins (Placed place) = refl
 begins (Faced faces) = refl
 begins (Parted parts) = refl
+begins (Reported facts) = refl
 begins (Listed entries) = refl
 
 -- a text that is empty or ends with LF
@@ -77,4 +79,5 @@ are_lines (Filled full) = one_line (codes "ok " ++ cond full (codes "filled") (c
 are_lines (Placed place) = one_line (codes "ok " ++ place_text place)
 are_lines (Faced faces) = then_lines (codes "ok " ++ decimal (length faces)) (cuts_text faces) (cuts_lines faces)
 are_lines (Parted parts) = then_lines (codes "ok " ++ decimal (length parts)) (parts_text parts) (parts_lines parts)
+are_lines (Reported facts) = one_line (codes "ok " ++ report_text facts)
 are_lines (Listed entries) = then_lines (codes "ok " ++ decimal (length entries)) (entries_text entries) (entries_lines entries)

@@ -3,12 +3,13 @@ use Rattle.std.specs.Prelude.{ℕ, ℤ, Bool, true, false, if◌then◌else◌, 
 use Rattle.std.specs.List.{join_with_byte}
 use Rattle.std.specs.Fmt.{signed_decimal}
 use Rattle.evm_model.specs.Figures.{Figure, Place, Inside, Boundary, Outside, CutFaces, vertices_in, content_of}
+use Rattle.evm_report.specs.Report.{Facts, report_text}
 use Rattle.evm_script.specs.Printed.{formula_words}
 use Rattle.evm_model.specs.Scene.{Entry, What, Given, Made}
 use Rattle.evm_model.specs.Edits.{Code, Line, Syntax, Name, Taken, Kind, Used, Cycle, Dim, Range, Missing, Shelf, Form, Memory}
 
 -- nothing, a refusal, how many names changed, a figure, a measure, whether a cell is filled, the place of a point, the faces at the
--- cuts of an axis, the parts of a figure, or the names
+-- cuts of an axis, the parts of a figure, a report, or the names
 pub data Reply : Type 0 where
   Empty : Reply
   No : Code → Reply
@@ -19,6 +20,7 @@ pub data Reply : Type 0 where
   Placed : Place → Reply
   Faced : List CutFaces → Reply
   Parted : List Figure → Reply
+  Reported : Facts → Reply
   Listed : List Entry → Reply
 
 -- the word of a code
@@ -96,6 +98,7 @@ reply_text (Filled full) = line_of (codes "ok " ++ (if full then codes "filled" 
 reply_text (Placed place) = line_of (codes "ok " ++ place_text place)
 reply_text (Faced faces) = line_of (codes "ok " ++ decimal (length faces)) ++ cuts_text faces
 reply_text (Parted parts) = line_of (codes "ok " ++ decimal (length parts)) ++ parts_text parts
+reply_text (Reported facts) = line_of (codes "ok " ++ report_text facts)
 reply_text (Listed entries) = line_of (codes "ok " ++ decimal (length entries)) ++ entries_text entries
 
 -- whether a reply refuses
@@ -109,4 +112,5 @@ is_no (Filled full) = false
 is_no (Placed place) = false
 is_no (Faced faces) = false
 is_no (Parted parts) = false
+is_no (Reported facts) = false
 is_no (Listed entries) = false

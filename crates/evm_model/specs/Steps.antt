@@ -12,7 +12,8 @@ use Rattle.evm_model.specs.Figures.{Figure, content_of, boundary_of, fills, plac
 use Rattle.evm_model.specs.Files.{Fetches, form_fits, form_in_range, figure_fetched, or_nothing, save_fits, bytes_in}
 use Rattle.evm_model.specs.Scene.{Scene, value, stands, dim_of, is_input}
 use Rattle.evm_model.specs.Edits.{Edit, Input, Toggle, Add, Cut, Replace, Def, Drop, Code, Line, Syntax, Name, Kind, Dim, Range, Missing, Form, first_cause, name_causes, place_causes, section_causes, axis_causes, value_causes, refusal, after, changed}
-use Rattle.evm_model.specs.Replies.{Reply, Empty, No, Changed, Shown, Measured, Filled, Placed, Faced, Parted, Listed}
+use Rattle.evm_model.specs.Replies.{Reply, Empty, No, Changed, Shown, Measured, Filled, Placed, Faced, Parted, Reported, Listed}
+use Rattle.evm_model.specs.Reports.{reported}
 
 -- what a line does: its reply, the scene after it, and the file that it places, as a name and its bytes
 pub record Turn : Type 0 where
@@ -111,6 +112,7 @@ way_of (commands.Project name axis) =
 way_of (commands.Faces name axis) =
     of_value name (λ scene. axis_causes scene name axis) (λ a. Faced (faces_of (nat_abs axis) a))
 way_of (commands.Parts name) = of_value name (λ scene. name_causes scene name) (λ a. Parted (parts_of a))
+way_of (commands.Report name) = Asks (λ scene. name_causes scene name) (λ scene. Reported (reported scene name))
 way_of (commands.Content name) = of_value name (λ scene. name_causes scene name) (λ a. Measured (content_of a))
 way_of (commands.Boundary name) = of_value name (λ scene. name_causes scene name) (λ a. Measured (boundary_of a))
 way_of (commands.At name nums) =

@@ -1,9 +1,9 @@
 //! The text of a report on a solid: one JSON object, without spaces.
 #![tactic(auto)]
 
-ghost use Rattle.std.specs.Prelude.{◌≡◌, IfOk, string_bytes};
+ghost use Rattle.std.specs.Prelude.{◌≡◌, IfOk, map, string_bytes};
 ghost use Rattle.serde_json.specs.View.{view};
-ghost use Rattle.evm_report.specs.Report.{coordinates, names, report_data, report_text};
+ghost use Rattle.evm_report.specs.Report.{coordinates, names, facts_of, report_data, report_text};
 
 #[cfg(test)]
 mod tests;
@@ -49,7 +49,7 @@ fn coordinates(alloc: Global, numbers: &[i32]) -> Result<Value, AllocError>
 
 /// Names as an array of texts.
 fn names(alloc: Global, texts: &[&str]) -> Result<Value, AllocError>
-    ensures { IfOk result (λ v. view v ≡ names texts.now) }
+    ensures { IfOk result (λ v. view v ≡ names (map (λ n. n.now) texts.now)) }
 {
     let mut values = Vec::new(alloc);
     for text in texts {
@@ -66,7 +66,7 @@ fn names(alloc: Global, texts: &[&str]) -> Result<Value, AllocError>
 ///
 /// `AllocError` where there is no memory for them.
 pub fn report_text(alloc: Global, report: &Report) -> Result<String, AllocError>
-    ensures { IfOk result (λ text. string_bytes text ≡ report_text report.now) }
+    ensures { IfOk result (λ text. string_bytes text ≡ report_text (facts_of report.now)) }
 {
     let value = report_value(alloc, report)?;
     value.to_string(alloc)
@@ -74,7 +74,7 @@ pub fn report_text(alloc: Global, report: &Report) -> Result<String, AllocError>
 
 /// The object of a report.
 fn report_value(alloc: Global, report: &Report) -> Result<Value, AllocError>
-    ensures { IfOk result (λ v. view v ≡ report_data report.now) }
+    ensures { IfOk result (λ v. view v ≡ report_data (facts_of report.now)) }
 {
     let low = coordinates(alloc, report.low)?;
     let high = coordinates(alloc, report.high)?;

@@ -117,6 +117,8 @@ read_again (commands.Faces name axis) h =
     ∙ ap (λ (o : Option (List ℕ × ℤ)). or_syntax (option_map (of_pair commands.Faces) o)) (name_number_again name axis h.0 h.1)
 read_again (commands.Parts name) h =
     with_name (codes "parts") name refl h ∙ ap (λ (o : Option (List ℕ)). or_syntax (option_map commands.Parts o)) (name_again name h)
+read_again (commands.Report name) h =
+    with_name (codes "report") name refl h ∙ ap (λ (o : Option (List ℕ)). or_syntax (option_map commands.Report o)) (name_again name h)
 read_again (commands.Save name form file) h = save_again name form file h.0 h.1
 read_again commands.List h = read_spaced (codes "list" ∷ []) refl (omega arith)
 

@@ -65,6 +65,7 @@ command_words (commands.Section name axis at) = codes "section" ∷ name ∷ sig
 command_words (commands.Project name axis) = codes "project" ∷ name ∷ signed_decimal axis ∷ []
 command_words (commands.Faces name axis) = codes "faces" ∷ name ∷ signed_decimal axis ∷ []
 command_words (commands.Parts name) = codes "parts" ∷ name ∷ []
+command_words (commands.Report name) = codes "report" ∷ name ∷ []
 command_words (commands.Save name form file) = codes "save" ∷ name ∷ save_words form file
 command_words commands.List = codes "list" ∷ []
 
@@ -114,6 +115,7 @@ KeepsRules (commands.Section name axis at) = (is_name name ≡ true) × (in_numb
 KeepsRules (commands.Project name axis) = (is_name name ≡ true) × (in_number_range axis ≡ true)
 KeepsRules (commands.Faces name axis) = (is_name name ≡ true) × (in_number_range axis ≡ true)
 KeepsRules (commands.Parts name) = is_name name ≡ true
+KeepsRules (commands.Report name) = is_name name ≡ true
 KeepsRules (commands.Save name form file) = (is_name name ≡ true) × (is_file_name file ≡ true)
 KeepsRules commands.List = Unit {0}
 

@@ -44,6 +44,7 @@ fn reads_each_question(rt: HostRuntime) -> Result<(), Fail> {
         ("project a_1 2", Command::Project { name, axis }),
         ("faces a_1 2", Command::Faces { name, axis }),
         ("parts a_1", Command::Parts { name }),
+        ("report a_1", Command::Report { name }),
         (" list ", Command::List),
     ];
     for (line, want) in cases {

@@ -80,6 +80,7 @@ fn put_command(text: &mut Vec<u8>, command: &Command) -> Result<(), NoMemory>
         Command::Project { name, axis } => put_name_number(text, b"project", name, axis),
         Command::Faces { name, axis } => put_name_number(text, b"faces", name, axis),
         Command::Parts { name } => put_name(text, b"parts", name),
+        Command::Report { name } => put_name(text, b"report", name),
         Command::Save { name, form, file } => put_save(text, name, form, file),
         Command::List => put_word(text, b"list"),
     }

@@ -11,3 +11,4 @@ pub mod Loading
 pub mod Filed
 pub mod Refused
 pub mod Counting
+pub mod Reporting

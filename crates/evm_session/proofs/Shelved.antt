@@ -12,7 +12,8 @@ use Rattle.evm_model.specs.Figures.{content_of, boundary_of, fills, place_of, sl
 use Rattle.evm_model.specs.Scene.{Scene, value, dim_of}
 use Rattle.evm_model.specs.Edits.{Edit, Input, Toggle, Add, Cut, Replace, Def, Drop, Code, first_cause, name_causes, place_causes, section_causes, axis_causes, edit_causes, after, changed}
 use Rattle.evm_model.specs.Edits as codes
-use Rattle.evm_model.specs.Replies.{Reply, Empty, No, Changed, Shown, Measured, Filled, Placed, Faced, Parted, Listed}
+use Rattle.evm_model.specs.Replies.{Reply, Empty, No, Changed, Shown, Measured, Filled, Placed, Faced, Parted, Reported, Listed}
+use Rattle.evm_model.specs.Reports.{reported}
 use Rattle.evm_model.specs.Steps.{Turn, stays, unless_refused, edited, asked, turn_of, command_fetches}
 use Rattle.evm_model.specs.Runs.{fetched_from, with_placed}
 use Rattle.evm_session.specs.declared.refusals.Refusal.{Refusal}
@@ -106,6 +107,7 @@ quiet_command scene (commands.At name nums) h = quiet_asked (place_causes scene 
 quiet_command scene (commands.Point name nums) h = quiet_asked (place_causes scene name nums (is_point_coord (dim_of scene name))) scene (Placed (place_of (value scene name) nums)) refl refl
 quiet_command scene (commands.Faces name axis) h = quiet_asked (axis_causes scene name axis) scene (Faced (faces_of (nat_abs axis) (value scene name))) refl refl
 quiet_command scene (commands.Parts name) h = quiet_asked (name_causes scene name) scene (Parted (parts_of (value scene name))) refl refl
+quiet_command scene (commands.Report name) h = quiet_asked (name_causes scene name) scene (Reported (reported scene name)) refl refl
 quiet_command scene (commands.Save name form file) h = absurd (false≢true (sym h))
 
 -- it fetches none, and so has its turn whatever fetches give

@@ -7,3 +7,4 @@ pub mod Carried
 pub mod Requests
 pub mod Loads
 pub mod Counted
+pub mod Reported

@@ -12,6 +12,7 @@ use super::files::{load, save};
 use super::lists::list;
 use super::questions::{at, boundary, content, parts, point, show};
 use super::refusals::Refusal;
+use super::reports::report;
 use super::sections::{faces, project, section};
 use evm_outside::Shelf;
 use evm_rows::NoMemory;
@@ -48,6 +49,7 @@ fn carry_out_alone(
         Command::Project { name, axis } => project(scene, alloc, &name, &axis, out),
         Command::Faces { name, axis } => faces(scene, alloc, &name, &axis, out),
         Command::Parts { name } => parts(scene, alloc, &name, out),
+        Command::Report { name } => report(scene, alloc, &name, out),
         Command::Load { .. } | Command::Save { .. } => unreachable!(),
     }
 }

@@ -3,7 +3,7 @@
 //! A session holds a scene: names of solids of 2 to 6 dimensions, each an input or a formula over other names. `input` makes an
 //! input without cells, `toggle`, `add` and `cut` change one by a box, `load` puts the cells that a file states in place of its
 //! own, `def` makes or changes a formula, and `drop` takes a name out. `save` places the solid of a name as a file. `show`,
-//! `section`, `project`, `faces`, `parts`, `content`, `boundary`, `at` and `point` ask about one name, and `list` about all. The
+//! `section`, `project`, `faces`, `parts`, `report`, `content`, `boundary`, `at` and `point` ask about one name, and `list` about all. The
 //! contracts speak of a session as a scene of `evm_model`, whose `answer` says for each scene, files and line what the reply is and
 //! what scene and files are after it: the vertices, measures, places, faces and parts there are those of sets of unit cells.
 //!
@@ -31,6 +31,7 @@ mod questions;
 mod readers;
 mod refusals;
 mod replies;
+mod reports;
 mod sections;
 
 use answers::answer;

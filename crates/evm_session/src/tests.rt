@@ -148,7 +148,7 @@ const SECTIONS: [(&str, &str); 24] = [
 ];
 
 /// Squares that meet at a corner, and nothing.
-const PARTS: [(&str, &str); 8] = [
+const PARTS: [(&str, &str); 12] = [
     ("input a 2", "ok 0\n"),
     ("parts a", "ok 0\n"),
     ("faces a 1", "ok 0\n"),
@@ -160,6 +160,16 @@ const PARTS: [(&str, &str); 8] = [
     ),
     ("add a 0 1 1 2", "ok 1\n"),
     ("parts zz", "no name\n"),
+    (
+        "report a",
+        "ok {\"boundary\":\"8\",\"content\":\"3\",\"dim\":2,\"high\":[2,2],\"kind\":\"input\",\"low\":[0,0],\"name\":\"a\",\"operands\":[],\"parts\":1,\"vertices\":6}\n",
+    ),
+    ("def s shift a -1 4", "ok 0\n"),
+    (
+        "report s",
+        "ok {\"boundary\":\"8\",\"content\":\"3\",\"dim\":2,\"high\":[1,6],\"kind\":\"shift\",\"low\":[-1,4],\"name\":\"s\",\"operands\":[\"a\"],\"parts\":1,\"vertices\":6}\n",
+    ),
+    ("report zz", "no name\n"),
 ];
 
 /// A square that is saved once the shelf does not fail, and loaded into another input; and what is refused of files.

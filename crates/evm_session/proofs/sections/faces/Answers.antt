@@ -1,5 +1,4 @@
-use Rattle.std.proofs.Common.{◌≡◌, ◌++◌, ◌≤◌, ℕ, List, true, nat_abs, sym, ◌∙◌, refl, ap, subst}
-use Rattle.evm_rows.specs.Rows.{Vertices}
+use Rattle.std.proofs.Common.{◌≡◌, ◌++◌, ℕ, List, true, nat_abs, ◌∙◌, refl, ap}
 use Rattle.evm_rows.specs.View.{vertices_of}
 use Rattle.evm_faces.specs.Counts.{faces_by_cut}
 use Rattle.evm_faces.specs.declared.counts.CutFaces.{CutFaces}
