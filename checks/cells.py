@@ -10,6 +10,7 @@ nothing of it.
 """
 import collections
 import itertools
+import json
 import pathlib
 import re
 import struct
@@ -21,7 +22,7 @@ MOST_CELLS = 2_000_000
 FORMS = [form.split() for form in """
 input NAME NUMBER; drop NAME; list; show NAME; content NAME; boundary NAME
 toggle NAME NUMBERS; add NAME NUMBERS; cut NAME NUMBERS; at NAME NUMBERS; point NAME NUMBERS
-section NAME NUMBER NUMBER; project NAME NUMBER; parts NAME; faces NAME NUMBER
+section NAME NUMBER NUMBER; project NAME NUMBER; parts NAME; faces NAME NUMBER; report NAME
 load NAME evm FILE; load NAME boxes FILE; load NAME pgm NUMBER FILE; load NAME y4m NUMBER FILE
 save NAME evm FILE; save NAME boxes FILE; save NAME faces FILE; save NAME obj FILE
 def NAME or NAME NAME; def NAME and NAME NAME; def NAME sub NAME NAME; def NAME xor NAME NAME
@@ -539,6 +540,13 @@ class Session:
         refuse_if(not 1 <= int(axis) <= self.dim[name], "dim")
         cuts = faces(self.cells[name], int(axis) - 1)
         return [f"ok {len(cuts)}"] + [f"{height} {len(rising)} {len(falling)}" for height, falling, rising in cuts]
+
+    def report(self, name):
+        cells, dim, points = self.cells[name], self.dim[name], vertices(self.cells[name], self.dim[name])
+        said = {"boundary": str(boundary(cells, dim)), "content": str(len(cells)), "dim": dim, "high": [max(axis) for axis in zip(*points)],
+                "kind": (self.formula[name] or ["input"])[0], "low": [min(axis) for axis in zip(*points)], "name": name,
+                "operands": self.operands(name), "parts": len(parts(cells)), "vertices": len(points)}
+        return ["ok " + json.dumps(said, separators=(",", ":"))]
 
     def at(self, name, *words):
         cell = tuple(int(word) for word in words)
