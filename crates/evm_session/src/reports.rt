@@ -128,18 +128,18 @@ fn operands_of<'a>(alloc: Global, formula: Option<&'a Formula>) -> Result<Vec<&'
         return Ok(Vec::new(alloc));
     };
     match formula {
-        Formula::Or { a, b }
-        | Formula::And { a, b }
-        | Formula::Sub { a, b }
-        | Formula::Xor { a, b } => names_of(alloc, a, Some(b)),
         Formula::Box { .. } => Ok(Vec::new(alloc)),
-        Formula::Shift { a, .. }
-        | Formula::Mirror { a, .. }
-        | Formula::Swap { a, .. }
-        | Formula::Clip { a, .. }
-        | Formula::Slice { a, .. }
+        Formula::Xor { a, b }
+        | Formula::Sub { a, b }
+        | Formula::And { a, b }
+        | Formula::Or { a, b } => names_of(alloc, a, Some(b)),
+        Formula::Lift { a, .. }
         | Formula::Proj { a, .. }
-        | Formula::Lift { a, .. } => names_of(alloc, a, None),
+        | Formula::Slice { a, .. }
+        | Formula::Clip { a, .. }
+        | Formula::Swap { a, .. }
+        | Formula::Mirror { a, .. }
+        | Formula::Shift { a, .. } => names_of(alloc, a, None),
     }
 }
 
