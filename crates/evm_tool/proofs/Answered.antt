@@ -9,7 +9,9 @@ use Rattle.evm_tool.specs.EndedLines.{ended_lines}
 use Rattle.evm_tool.specs.Script.{Answered, StopsIn}
 use Rattle.evm_tool.specs.Served.{State, Served, Progress}
 use Rattle.evm_tool.specs.Streams.{script_limit}
-use Rattle.evm_tool.specs.Top.{first_world, Begins, Runs, StopsAt, ReadFaults, WriteFaults, Completes}
+use Rattle.evm_tool.specs.Top.{first_world, Begins, Runs, StopsAt, ReadFaults, WriteFaults, Finishes, Completes, Makes, Does}
+use Rattle.evm_words.specs.declared.form.Form.{Form}
+use Rattle.evm_words.specs.declared.form.Form.TheVariants.{Run, Gen}
 use Rattle.evm_tool.specs.declared.top.Status.{Status}
 use Rattle.evm_tool.specs.declared.top.Status.TheVariants.{Done, Refused, Words, ReadFault, WriteFault, NoMemory, TooLong}
 use Rattle.evm_tool.proofs.Served.{progress_start, served_progress, answers_of, CutsAt, progress_cut}
@@ -84,18 +86,39 @@ runs_of TooLong left left_now s t e v =
     }
 
 -- a script that is not too long was answered where no device failed
-completes_told : (status : Status) (script : List ℕ) (left_now : Option (List ℕ)) (s t : State) (words : List (List ℕ)) (r q w v : ℕ) → Answered status (Some script) left_now s t → ReadFaults status r q
-    → WriteFaults status w v → Completes status words script (Some script) left_now s.written t.written r q w v
-completes_told Done script left_now s t words r q w v a reads sends = λ run short no_read no_write. tt
-completes_told Refused script left_now s t words r q w v a reads sends = λ run short no_read no_write. tt
-completes_told Words script left_now s t words r q w v a reads sends = absurd a
-completes_told ReadFault script left_now s t words r q w v a reads sends = λ run short no_read no_write. no_read reads
-completes_told WriteFault script left_now s t words r q w v a reads sends = λ run short no_read no_write. no_write sends
-completes_told NoMemory script left_now s t words r q w v a reads sends = absurd a
-completes_told TooLong script None s t words r q w v a reads sends = absurd a.1
-completes_told TooLong script (Some now) s t words r q w v a reads sends = λ run short no_read no_write. omega (arith, ap length a.1, length-append a.0 now, a.2, short)
+finishes_told : (status : Status) (script : List ℕ) (left_now : Option (List ℕ)) (s t : State) (r q w v : ℕ) → Answered status (Some script) left_now s t → ReadFaults status r q
+    → WriteFaults status w v → Finishes status script (Some script) left_now s.written t.written r q w v
+finishes_told Done script left_now s t r q w v a reads sends = λ short no_read no_write. tt
+finishes_told Refused script left_now s t r q w v a reads sends = λ short no_read no_write. tt
+finishes_told Words script left_now s t r q w v a reads sends = absurd a
+finishes_told ReadFault script left_now s t r q w v a reads sends = λ short no_read no_write. no_read reads
+finishes_told WriteFault script left_now s t r q w v a reads sends = λ short no_read no_write. no_write sends
+finishes_told NoMemory script left_now s t r q w v a reads sends = absurd a
+finishes_told TooLong script None s t r q w v a reads sends = absurd a.1
+finishes_told TooLong script (Some now) s t r q w v a reads sends = λ short no_read no_write. omega (arith, ap length a.1, length-append a.0 now, a.2, short)
 
-pub completes_of : (status : Status) (left left_now : Option (List ℕ)) (s t : State) (words : List (List ℕ)) (r q w v : ℕ) → Answered status left left_now s t → ReadFaults status r q → WriteFaults status w v
-    → IfSome left (λ script. Completes status words script left left_now s.written t.written r q w v)
-completes_of status None left_now s t words r q w v a reads sends = tt
-completes_of status (Some script) left_now s t words r q w v a reads sends = completes_told status script left_now s t words r q w v a reads sends
+pub finishes_of : (status : Status) (left left_now : Option (List ℕ)) (s t : State) (r q w v : ℕ) → Answered status left left_now s t → ReadFaults status r q → WriteFaults status w v
+    → IfSome left (λ script. Finishes status script left left_now s.written t.written r q w v)
+finishes_of status None left_now s t r q w v a reads sends = tt
+finishes_of status (Some script) left_now s t r q w v a reads sends = finishes_told status script left_now s t r q w v a reads sends
+
+-- and so where the words ask for it
+pub completes_run : (status : Status) (asked : Option Form) (left left_now written written_now : Option (List ℕ)) (r q w v : ℕ) → IfSome left (λ script. Finishes status script left left_now written written_now r q w v)
+    → IfSome left (λ script. Completes status asked script left left_now written written_now r q w v)
+completes_run status asked None left_now written written_now r q w v h = tt
+completes_run status asked (Some script) left_now written written_now r q w v h = λ run. h
+
+-- other words complete nothing
+pub completes_not : (status : Status) (asked : Option Form) (left left_now written written_now : Option (List ℕ)) (r q w v : ℕ) → (asked ≡ Some Run → ⊥)
+    → IfSome left (λ script. Completes status asked script left left_now written written_now r q w v)
+completes_not status asked None left_now written written_now r q w v h = tt
+completes_not status asked (Some script) left_now written written_now r q w v h = λ run. absurd (h run)
+
+-- what words ask for
+pub does_run : (asked : Option Form) (status : Status) (left left_now written written_now : Option (List ℕ)) (shelf shelf_now : ShelfView) → asked ≡ Some Run → Runs status left left_now written written_now shelf shelf_now
+    → Does asked status left left_now written written_now shelf shelf_now
+does_run asked status left left_now written written_now shelf shelf_now e h = subst (λ (o : Option Form). Does o status left left_now written written_now shelf shelf_now) (sym e) h
+
+pub does_gen : (asked : Option Form) (seed edits : ℕ) (status : Status) (left left_now written written_now : Option (List ℕ)) (shelf shelf_now : ShelfView) → asked ≡ Some (Gen seed edits) → Makes status seed edits left left_now written written_now shelf shelf_now
+    → Does asked status left left_now written written_now shelf shelf_now
+does_gen asked seed edits status left left_now written written_now shelf shelf_now e h = subst (λ (o : Option Form). Does o status left left_now written written_now shelf shelf_now) (sym e) h

@@ -56,7 +56,8 @@ misses_over reply before now h = h
 pub counts_none : (kind : Reply → Bool) (before : ℕ) → Counts kind [] before before
 counts_none kind before = record { rose = inl (omega arith); stays = λ e k. refl }
 
-count_more : (kind : Reply → Bool) (rs : List Reply) (r : Reply) → count_by kind (rs ++ r ∷ []) ≡ count_by kind rs + cond (kind r) 1 0
+-- one reply more
+pub count_more : (kind : Reply → Bool) (rs : List Reply) (r : Reply) → count_by kind (rs ++ r ∷ []) ≡ count_by kind rs + cond (kind r) 1 0
 count_more kind rs r =
     let one : Reply → ℕ = λ x. cond (kind x) 1 0 in
     omega (arith, sum_by-append one rs (r ∷ []), sum_by-cons one r [])

@@ -3,3 +3,4 @@ pub mod Streams
 pub mod Top
 pub mod Served
 pub mod Script
+pub mod Generated

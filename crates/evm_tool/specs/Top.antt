@@ -1,5 +1,5 @@
 -- What a run reads, writes and places, by its status.
-use Rattle.std.specs.Prelude.{ℕ, ◌≡◌, ◌+◌, ◌<◌, ◌≤◌, ◌⊎◌, Bool, true, false, List, [], ◌∷◌, ◌++◌, length, take, drop, count_by, Option, is_some, bytes_eq, codes}
+use Rattle.std.specs.Prelude.{ℕ, ◌≡◌, ◌+◌, ◌<◌, ◌≤◌, ◌⊎◌, Bool, true, false, List, [], ◌∷◌, ◌++◌, length, take, drop, count_by, Option, None, Some, is_some}
 use Rattle.std.specs.List.{list_any}
 use Rattle.std.specs.Io.KnownBytes.{Appends, Consumes, Keeps, IsAtEnd}
 use Rattle.evm_outside.specs.Causes.{Rose, counter_last}
@@ -10,17 +10,13 @@ use Rattle.evm_model.specs.Replies.{Reply, No, reply_text}
 use Rattle.evm_model.specs.Runs.{World, Mark, answer, may_all_have, run, world_after, texts, some_no}
 use Rattle.evm_text.specs.Lines.{lines}
 use Rattle.evm_session.specs.Answers.{ShelfView, world_of, AreFiles}
+use Rattle.evm_words.specs.declared.form.Form.{Form}
+use Rattle.evm_words.specs.declared.form.Form.TheVariants.{Run, Gen}
 use Rattle.evm_tool.specs.EndedLines.{ended_lines}
+use Rattle.evm_tool.specs.Generated.{Generates}
 use Rattle.evm_tool.specs.Streams.{script_limit, piece_max}
 use Rattle.evm_tool.specs.declared.top.Status.{Status}
 use Rattle.evm_tool.specs.declared.top.Status.TheVariants.{Done, Refused, Words, ReadFault, WriteFault, NoMemory, TooLong}
-
--- the words of a run: the program's name, and `run`
-abbrev pub is_run : List (List ℕ) → Bool
-is_run [] = false
-is_run (program ∷ []) = false
-is_run (program ∷ word ∷ []) = bytes_eq word (codes "run")
-is_run (program ∷ word ∷ more ∷ rest) = false
 
 -- the world in which a run starts: no names, and the files that the shelf tells
 abbrev pub first_world : ShelfView → World
@@ -168,15 +164,40 @@ IsAnswered WriteFault left left_now written written_now = ⊥
 IsAnswered NoMemory left left_now written written_now = Keeps left left_now × Keeps written written_now
 IsAnswered TooLong left left_now written written_now = ⊥
 
--- a run of a script that is not too long is answered where neither the source nor the sink failed
-abbrev pub Completes : Status → List (List ℕ) → List ℕ → Option (List ℕ) → Option (List ℕ) → Option (List ℕ) → Option (List ℕ)
+-- a script that is not too long is answered where neither the source nor the sink failed
+abbrev pub Finishes : Status → List ℕ → Option (List ℕ) → Option (List ℕ) → Option (List ℕ) → Option (List ℕ)
     → ℕ → ℕ → ℕ → ℕ → Type 0
-Completes status words script left left_now written written_now read_before read_now write_before write_now =
-    is_run words ≡ true
-    → length script ≤ script_limit
+Finishes status script left left_now written written_now read_before read_now write_before write_now =
+    length script ≤ script_limit
     → (Rose read_before read_now → ⊥)
     → (Rose write_before write_now → ⊥)
     → IsAnswered status left left_now written written_now
+
+-- so is one where the words ask for a run
+abbrev pub Completes : Status → Option Form → List ℕ → Option (List ℕ) → Option (List ℕ) → Option (List ℕ) → Option (List ℕ)
+    → ℕ → ℕ → ℕ → ℕ → Type 0
+Completes status asked script left left_now written written_now read_before read_now write_before write_now =
+    asked ≡ Some Run
+    → Finishes status script left left_now written written_now read_before read_now write_before write_now
+
+-- a status that says that the words ask for nothing comes just where they do, but for want of memory
+abbrev pub TellsForm : Status → Option Form → Type 0
+TellsForm Words asked = asked ≡ None
+TellsForm NoMemory asked = Unit {0}
+TellsForm status asked = asked ≡ None → ⊥
+
+-- a generated script was answered: its summary was written, and the source and the shelf are as before
+pub record Makes (status : Status) (seed edits : ℕ) (left left_now written written_now : Option (List ℕ)) (shelf shelf_now : ShelfView) : Type 0 where
+  pub text : Generates status seed edits written written_now
+  pub left_kept : left_now ≡ left
+  pub shelf_kept : shelf_now ≡ shelf
+
+-- what words ask for was done; where they ask for nothing, nothing was
+abbrev pub Does : Option Form → Status → Option (List ℕ) → Option (List ℕ) → Option (List ℕ) → Option (List ℕ) → ShelfView → ShelfView → Type 0
+Does None status left left_now written written_now shelf shelf_now = Runs status left left_now written written_now shelf shelf_now
+Does (Some Run) status left left_now written written_now shelf shelf_now = Runs status left left_now written written_now shelf shelf_now
+Does (Some (Gen seed edits)) status left left_now written written_now shelf shelf_now =
+    Makes status seed edits left left_now written written_now shelf shelf_now
 
 -- the exit status
 abbrev pub exit_code : Status → ℕ

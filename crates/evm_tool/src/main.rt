@@ -1,10 +1,11 @@
-//! The program `evm`: `evm run` answers a script of edits and questions on solids, line by line.
+//! The program `evm`: `evm run` answers a script of edits and questions on solids, line by line; `evm gen` a script made of a number.
 //!
 //! The script comes from standard input and the replies go to standard output; files are those of the current folder. All
 //! that the program does is in [`evm_main`], over any source, sink and shelf of files; `main` makes the real ones.
 #![tactic(auto)]
 
 mod answers;
+mod generated;
 mod script;
 mod send;
 mod take;
@@ -48,7 +49,7 @@ fn main(rt: HostRuntime) -> ExitCode {
         Err(status) => status,
     };
     if status == Status::Words {
-        let _ = eprintln!(rt; "usage: evm run");
+        let _ = eprintln!(rt; "usage: evm run | evm gen --seed S --edits N");
     }
     ExitCode::from(status.code())
 }

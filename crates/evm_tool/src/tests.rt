@@ -353,3 +353,27 @@ fn other_words_than_those_of_a_run_are_refused(rt: HostRuntime) -> Result<(), Fa
     }
     Ok(())
 }
+
+#[test]
+fn a_generated_script_is_summed_up(rt: HostRuntime) -> Result<(), Fail> {
+    let alloc = rt.alloc();
+    let words = words_of(alloc, &["evm", "gen", "--edits", "1", "--seed=0"])?;
+    let mut input = MemSource::new(bytes_of(alloc, "input a 2\n")?, PIECE, Vec::new(alloc));
+    let summary = "lines 15\nok 15\nno 0\nok 9\nok 30\nok 3\nok 8\nok 18\nok 60\n";
+    for (room, written, end) in [
+        (64, summary, Status::Done),
+        (7, "lines 1", Status::WriteFault),
+    ] {
+        let mut output = MemSink::new(alloc, room, Vec::new(alloc))?;
+        let status = evm_main(
+            alloc,
+            words.as_slice(),
+            &mut input,
+            &mut output,
+            &mut no_files(alloc),
+        );
+        assert_eq!(rt; status, end);
+        assert_eq!(rt; str::from_utf8(output.bytes()), Ok(written));
+    }
+    Ok(())
+}

@@ -1,0 +1,106 @@
+-- What a generated script writes, by its replies.
+use Rattle.std.specs.Prelude.{ℕ, ◌≡◌, ◌+◌, ◌≤◌, Bool, true, false, not, nat_lt, if◌then◌else◌, List, [], ◌∷◌, ◌++◌, length, drop, count_by, Option, Result, Ok, Err, codes, decimal}
+use Rattle.std.specs.FinMap as finite
+use Rattle.std.specs.Io.KnownBytes.{Appends}
+use Rattle.std.specs.List.{list_all}
+use Rattle.evm_generator.specs.Script.{generated_lines}
+use Rattle.evm_model.specs.Scene.{Scene, start}
+use Rattle.evm_model.specs.Replies.{Reply, reply_text, is_no, line_of}
+use Rattle.evm_model.specs.Runs.{World, Mark, Plain, NoMemory, NoShelf, Fetched, answer, run, texts, some_no, world_after}
+use Rattle.evm_rows.specs.declared.solid.NoMemory.{NoMemory as Lack}
+use Rattle.evm_tool.specs.Streams.{AppendsPart}
+use Rattle.evm_tool.specs.declared.top.Status.{Status}
+use Rattle.evm_tool.specs.declared.top.Status.TheVariants as ends
+
+-- a scene without files
+abbrev pub own_world : Scene → World
+own_world scene = record { scene = scene; files = finite.empty }
+
+-- a line was answered, or memory was missing
+abbrev pub is_own : Mark → Bool
+is_own Plain = true
+is_own NoMemory = true
+is_own NoShelf = false
+is_own (Fetched got) = false
+
+-- the replies to the lines of a generated script, from no names and no files
+abbrev pub replies_of : ℕ → ℕ → List Mark → List Reply
+replies_of seed edits marks = run (own_world start) (generated_lines seed edits) marks
+
+-- how many replies do not refuse, and how many do
+abbrev pub fine_in : List Reply → ℕ
+fine_in rs = count_by (λ r. not (is_no r)) rs
+
+abbrev pub refused_in : List Reply → ℕ
+refused_in rs = count_by is_no rs
+
+-- the summary with these counts and these last replies
+abbrev pub summary_by : ℕ → ℕ → List ℕ → List ℕ
+summary_by fine refused last =
+    line_of (codes "lines " ++ decimal (fine + refused)) ++ line_of (codes "ok " ++ decimal fine)
+    ++ line_of (codes "no " ++ decimal refused) ++ last
+
+-- the summary of the replies to a script with so many edits: its last six replies stand behind the counts
+abbrev pub summary_of : ℕ → List Reply → List ℕ
+summary_of edits rs =
+    line_of (codes "lines " ++ decimal (length rs)) ++ line_of (codes "ok " ++ decimal (fine_in rs))
+    ++ line_of (codes "no " ++ decimal (refused_in rs)) ++ texts (drop (edits + 8) rs)
+
+-- with a mark of its own, a line has this reply, and the scene is that after it
+pub record Replies (line : List ℕ) (old new : Scene) (text : List ℕ) (fine : Bool) : Type 0 where
+  pub mark : Mark
+  pub own : is_own mark ≡ true
+  pub sent : text ≡ reply_text (answer (own_world old) line mark).reply
+  pub kind : fine ≡ not (is_no (answer (own_world old) line mark).reply)
+  pub world : own_world new ≡ (answer (own_world old) line mark).world
+
+abbrev pub RepliesTo : Result Bool Lack → List ℕ → Scene → Scene → List ℕ → Type 0
+RepliesTo (Ok fine) line old new text = Replies line old new text fine
+RepliesTo (Err lack) line old new text = Unit {0}
+
+-- one reply was counted, and kept where as many as are passed over came before
+pub record Counts (fine : Bool) (reply : List ℕ) (passed fine_old fine_new refused_old refused_new : ℕ) (last_old last_new : List ℕ) : Type 0 where
+  pub fines : fine_new ≡ (if fine then fine_old + 1 else fine_old)
+  pub refusals : refused_new ≡ (if fine then refused_old else refused_old + 1)
+  pub kept : last_new ≡ (if nat_lt (fine_old + refused_old) passed then last_old else last_old ++ reply)
+
+-- the first lines of a script were answered, and these are left
+pub record SoFar (seed edits : ℕ) (left : List (List ℕ)) (scene : Scene) (fine refused : ℕ) (last : List ℕ) : Type 0 where
+  pub marks : List Mark
+  pub here : drop (length marks) (generated_lines seed edits) ≡ left
+  pub most : length marks ≤ length (generated_lines seed edits)
+  pub own : list_all is_own marks ≡ true
+  pub reached : own_world scene ≡ world_after (own_world start) (generated_lines seed edits) marks
+  pub each : length (replies_of seed edits marks) ≡ length marks
+  pub sum : fine + refused ≡ length marks
+  pub fines : fine ≡ fine_in (replies_of seed edits marks)
+  pub refusals : refused ≡ refused_in (replies_of seed edits marks)
+  pub kept : last ≡ texts (drop (edits + 8) (replies_of seed edits marks))
+
+-- all lines were answered, with one mark each
+pub record Sums (seed edits fine refused : ℕ) (last : List ℕ) : Type 0 where
+  pub marks : List Mark
+  pub each : length marks ≡ edits + 14
+  pub own : list_all is_own marks ≡ true
+  pub few : fine + refused ≡ edits + 14
+  pub text : summary_by fine refused last ≡ summary_of edits (replies_of seed edits marks)
+  pub some : some_no (replies_of seed edits marks) ≡ nat_lt 0 refused
+
+-- with one mark for each line, some reply refuses or none does, and this is so of the summary
+pub record Summed (seed edits : ℕ) (some : Bool) (IsWritten : List ℕ → Type 0) : Type 0 where
+  pub marks : List Mark
+  pub each : length marks ≡ edits + 14
+  pub own : list_all is_own marks ≡ true
+  pub refused : some_no (replies_of seed edits marks) ≡ some
+  pub written : IsWritten (summary_of edits (replies_of seed edits marks))
+
+-- what is written of a generated script: the summary, a front of it and not all where the sink failed, or nothing for want of memory
+abbrev pub Generates : Status → ℕ → ℕ → Option (List ℕ) → Option (List ℕ) → Type 0
+Generates ends.Done seed edits before now = Summed seed edits false (λ text. Appends before now text)
+Generates ends.Refused seed edits before now = Summed seed edits true (λ text. Appends before now text)
+Generates ends.Words seed edits before now = ⊥
+Generates ends.ReadFault seed edits before now = ⊥
+Generates ends.WriteFault seed edits before now =
+    (some : Bool) × Summed seed edits some (λ text. AppendsPart before now text)
+Generates ends.NoMemory seed edits before now = Appends before now []
+Generates ends.TooLong seed edits before now = ⊥
