@@ -22,7 +22,7 @@ MOST_CELLS = 2_000_000
 FORMS = [form.split() for form in """
 input NAME NUMBER; drop NAME; list; show NAME; content NAME; boundary NAME
 toggle NAME NUMBERS; add NAME NUMBERS; cut NAME NUMBERS; at NAME NUMBERS; point NAME NUMBERS
-section NAME NUMBER NUMBER; project NAME NUMBER; parts NAME; faces NAME NUMBER; report NAME
+section NAME NUMBER NUMBER; project NAME NUMBER; parts NAME; report NAME; faces NAME NUMBER
 load NAME evm FILE; load NAME boxes FILE; load NAME pgm NUMBER FILE; load NAME y4m NUMBER FILE
 save NAME evm FILE; save NAME boxes FILE; save NAME faces FILE; save NAME obj FILE
 def NAME or NAME NAME; def NAME and NAME NAME; def NAME sub NAME NAME; def NAME xor NAME NAME
@@ -535,6 +535,15 @@ class Session:
             rows = vertices(part, self.dim[name])
             lines += [f"part {len(rows)} {len(part)}"] + [" ".join(map(str, row)) for row in rows]
         return lines
+
+    def report(self, name):
+        cells, dim, words = self.cells[name], self.dim[name], self.formula[name] or ["input"]
+        rows = vertices(cells, dim)
+        reads = {"input": 0, "box": 0, "or": 2, "and": 2, "sub": 2, "xor": 2}.get(words[0], 1)
+        facts = {"boundary": str(boundary(cells, dim)), "content": str(len(cells)), "dim": dim, "high": [max(column) for column in zip(*rows)],
+                 "kind": words[0], "low": [min(column) for column in zip(*rows)], "name": name, "operands": list(words[1:1 + reads]),
+                 "parts": len(parts(cells)), "vertices": len(rows)}
+        return ["ok " + json.dumps(facts, separators=(",", ":"))]
 
     def faces(self, name, axis):
         refuse_if(not 1 <= int(axis) <= self.dim[name], "dim")

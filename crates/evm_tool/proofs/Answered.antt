@@ -1,5 +1,5 @@
 -- A script that was answered, from a new session on, is a run.
-use Rattle.std.proofs.Common.{◌≡◌, ℕ, ◌+◌, ◌≤◌, Bool, true, false, ◌||◌, List, [], ◌∷◌, ◌++◌, length, take, refl, sym, ◌∙◌, ap, subst, arith, append_assoc, Option, Some, None, IfSome, Err}
+use Rattle.std.proofs.Common.{◌≡◌, ℕ, ◌+◌, Bool, true, false, List, [], ◌∷◌, ◌++◌, length, take, sym, ◌∙◌, ap, subst, arith, append_assoc, Option, Some, None, IfSome}
 use Rattle.std.proofs.lemmas.List.{take_at, length-append}
 use Rattle.evm_model.specs.Scene.{start}
 use Rattle.evm_model.specs.Runs.{run, texts}
@@ -9,7 +9,7 @@ use Rattle.evm_tool.specs.EndedLines.{ended_lines}
 use Rattle.evm_tool.specs.Script.{Answered, StopsIn}
 use Rattle.evm_tool.specs.Served.{State, Served, Progress}
 use Rattle.evm_tool.specs.Streams.{script_limit}
-use Rattle.evm_tool.specs.Top.{first_world, Begins, Runs, StopsAt, ReadFaults, WriteFaults, Finishes, Completes, Makes, Does}
+use Rattle.evm_tool.specs.Top.{first_world, Runs, StopsAt, ReadFaults, WriteFaults, Finishes, Completes, Makes, Does}
 use Rattle.evm_words.specs.declared.form.Form.{Form}
 use Rattle.evm_words.specs.declared.form.Form.TheVariants.{Run, Gen}
 use Rattle.evm_tool.specs.declared.top.Status.{Status}

@@ -1,9 +1,8 @@
 -- Lines that were served one after another, and lines that are too long to tell apart.
-use Rattle.std.proofs.Common.{◌≡◌, ℕ, ◌+◌, ◌-◌, ◌<◌, ◌≤◌, Bool, true, false, not, ◌&&◌, ◌||◌, nat_eq, nat_lt, if◌then◌else◌, List, [], ◌∷◌, ◌++◌, length, take, drop, slice_index, refl, sym, ◌∙◌, ap, subst, arith, append_assoc, Result, Ok, Err, inl, inr, lt-ltb}
+use Rattle.std.proofs.Common.{◌≡◌, ℕ, ◌-◌, ◌<◌, ◌≤◌, Bool, true, false, not, ◌&&◌, ◌||◌, nat_eq, if◌then◌else◌, List, [], ◌∷◌, ◌++◌, length, take, slice_index, refl, sym, ◌∙◌, ap, subst, arith, Result, Ok, Err, inl, inr, lt-ltb}
 use Rattle.std.proofs.Math.Bool.{or_assoc}
 use Rattle.std.proofs.lemmas.List.{length-append, length-take, append-nil}
 use Rattle.evm_outside.specs.declared.Failed.{Failed}
-use Rattle.evm_model.specs.Replies.{Reply}
 use Rattle.evm_model.specs.Runs.{World, Mark, Plain, NoMemory, NoShelf, Fetched, Answer, answer, may_have, fetched_from, turned}
 use Rattle.evm_model.specs.Steps.{step, line_turn, fetches, asks, of_line, command_fetches, command_asks}
 use Rattle.evm_script.specs.Line.{command, command_of_words}

@@ -1,15 +1,15 @@
 -- The lines of a text whose front is known, and where the first line feed stands.
-use Rattle.std.proofs.Common.{◌≡◌, ℕ, ◌+◌, ◌<◌, ◌≤◌, Bool, true, false, List, [], ◌∷◌, ◌++◌, length, take, drop, get_or, refl, sym, ◌∙◌, ap, subst, arith, append_assoc, All, Some, None, flat_map}
+use Rattle.std.proofs.Common.{◌≡◌, ℕ, ◌+◌, ◌<◌, false, List, [], ◌∷◌, ◌++◌, length, take, drop, get_or, refl, sym, ◌∙◌, ap, arith, append_assoc, All, Some, None}
 use Rattle.std.specs.List.{slice_split, position, position_or_len, before_first, after_first}
 use Rattle.std.proofs.lemmas.Bool.{false≢true, eqb-true}
 use Rattle.std.proofs.lemmas.Grind.{flat_map-append}
 use Rattle.std.proofs.lemmas.List.{length-append, length-take, append-nil, get_or-take}
-use Rattle.std.proofs.lemmas.List.Elements.{All-drop, All-cons}
+use Rattle.std.proofs.lemmas.List.Elements.{All-drop}
 use Rattle.std.proofs.lemmas.List.Splits.{slice_split_none, slice_split_at, length-slice_split}
 use Rattle.std.proofs.lemmas.List.Sums.{fails_before_first, split_at_first, passes_at_first}
 use Rattle.evm_text.specs.Lines.{is_lf, last_line, lines_of_parts, lines, text_of}
 use Rattle.evm_text.proofs.LineCuts.{some_place, no_place}
-use Rattle.evm_tool.specs.EndedLines.{HasNoLf, IsCut, ended_parts, ended_lines}
+use Rattle.evm_tool.specs.EndedLines.{HasNoLf, ended_parts, ended_lines}
 
 -- ---- lines with a line feed each, in front of a text
 

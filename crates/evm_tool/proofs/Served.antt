@@ -12,7 +12,7 @@ use Rattle.evm_model.specs.Runs.{World, Mark, NoMemory, answer, may_have, may_al
 use Rattle.evm_model.proofs.RunLaws.{run_more, run_later, world_more, texts_more, some_no_more, drop_more, run_no_marks, after_no_marks, may_no_marks, may_more}
 use Rattle.evm_session.specs.Answers.{ShelfView, IsAnswered, IsAsBefore, world_of, AreFiles}
 use Rattle.evm_tool.specs.Streams.{AppendsPart}
-use Rattle.evm_tool.specs.Served.{Serves, Progress, State, ServesFrom, Served}
+use Rattle.evm_tool.specs.Served.{Serves, Progress, State, Served}
 use Rattle.evm_tool.specs.Top.{first_world, is_no_shelf, is_no_missing, Counts, LeavesShelf, Answers, Begins}
 use Rattle.evm_tool.proofs.Streams.{appends_nothing, appends_more}
 use Rattle.evm_tool.proofs.Worlds.{IsSameButFiles, IsOf, alike, files_alike, may_alike, told_kept, files_kept, files_told}

@@ -1,9 +1,9 @@
 -- How the answered lines of a generated script grow by one, and what they give at the end.
-use Rattle.std.proofs.Common.{◌≡◌, ℕ, ◌+◌, ◌-◌, ◌<◌, ◌≤◌, Bool, true, false, not, ◌&&◌, ◌||◌, cond, if◌then◌else◌, nat_lt, List, [], ◌∷◌, ◌++◌, length, drop, count_by, codes, refl, sym, ◌∙◌, ap, subst, arith, Option, Some, None, decimal, Ok, lt-ltb}
+use Rattle.std.proofs.Common.{◌≡◌, ℕ, ◌+◌, ◌<◌, ◌≤◌, Bool, true, false, not, ◌&&◌, ◌||◌, cond, if◌then◌else◌, nat_lt, List, [], ◌∷◌, ◌++◌, length, drop, codes, refl, sym, ◌∙◌, ap, subst, arith, Option, Some, decimal, Ok, lt-ltb}
 use Rattle.std.specs.FinMap as finite
 use Rattle.std.specs.List.{list_all}
 use Rattle.std.proofs.lemmas.Bool.{false≢true, ltb-false, ltb-true}
-use Rattle.std.proofs.lemmas.List.{append_assoc, drop-append-le, length-append, length-drop}
+use Rattle.std.proofs.lemmas.List.{drop-append-le, length-append, length-drop}
 use Rattle.std.proofs.lemmas.List.Folds.{list_all-append}
 use Rattle.std.proofs.lemmas.List.Sums.{sum_by-cons}
 use Rattle.std.proofs.Math.ListN.{drop_of_length-le}
@@ -14,11 +14,11 @@ use Rattle.evm_generator.specs.declared.generator.Generator.{Generator}
 use Rattle.evm_generator.specs.Script.{generated_lines}
 use Rattle.evm_model.specs.Scene.{Scene, start}
 use Rattle.evm_model.specs.Replies.{Reply, reply_text, is_no, line_of}
-use Rattle.evm_model.specs.Runs.{World, Mark, Plain, NoMemory, NoShelf, Fetched, answer, may_have, run, texts, some_no, world_after}
+use Rattle.evm_model.specs.Runs.{World, Mark, Plain, NoMemory, NoShelf, Fetched, answer, may_have, texts, some_no, world_after}
 use Rattle.evm_model.proofs.RunLaws.{run_more, world_more, texts_more, drop_more, run_no_marks, after_no_marks}
 use Rattle.evm_outside.specs.Shelves.{Files}
 use Rattle.evm_session.specs.Answers.{IsAnswered, IsAsBefore, ShelfView, shelf_view, FaultsBy}
-use Rattle.evm_tool.specs.Generated.{own_world, is_own, replies_of, fine_in, refused_in, summary_by, summary_of, Replies, Counts, SoFar, Sums, Summed, Generates}
+use Rattle.evm_tool.specs.Generated.{own_world, is_own, replies_of, fine_in, refused_in, summary_by, Replies, Counts, SoFar, Sums, Summed, Generates}
 use Rattle.evm_tool.specs.Streams.{AppendsPart}
 use Rattle.evm_tool.specs.declared.top.Status.{Status}
 use Rattle.evm_tool.specs.declared.top.Status.TheVariants.{Done, Refused, WriteFault}

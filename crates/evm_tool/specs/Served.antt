@@ -1,6 +1,6 @@
 -- One line that was answered, and all lines so far.
-use Rattle.std.specs.Prelude.{ℕ, ◌≡◌, ◌+◌, ◌≤◌, ◌⊎◌, Bool, true, false, not, ◌||◌, List, [], ◌∷◌, ◌++◌, ◌-◌, All, length, take, drop, Option, is_some, Result, Ok, Err}
-use Rattle.std.specs.Io.KnownBytes.{Appends, Consumes, IsAtEnd}
+use Rattle.std.specs.Prelude.{ℕ, ◌≡◌, ◌≤◌, ◌⊎◌, Bool, true, false, not, ◌||◌, List, [], ◌∷◌, ◌++◌, ◌-◌, All, length, drop, Option, is_some, Result, Ok, Err}
+use Rattle.std.specs.Io.KnownBytes.{Appends, Consumes}
 use Rattle.evm_outside.specs.declared.Failed.{Failed}
 use Rattle.evm_outside.specs.Causes.{Climbed, MayClimb}
 use Rattle.evm_model.specs.Scene.{Scene}
@@ -8,12 +8,10 @@ use Rattle.evm_model.specs.Edits.{Shelf, Missing, Memory}
 use Rattle.evm_model.specs.Replies.{Reply, No, reply_text, is_no}
 use Rattle.evm_model.specs.Runs.{Mark, answer, may_have, run, texts, some_no, world_after}
 use Rattle.evm_session.specs.Answers.{ShelfView, world_of, AreFiles}
-use Rattle.evm_text.specs.Lines.{lines, text_of}
-use Rattle.evm_tool.specs.EndedLines.{HasNoLf, IsCut, ended_lines}
-use Rattle.evm_tool.specs.Streams.{AppendsPart, script_limit, piece_max, line_kept}
-use Rattle.evm_tool.specs.Top.{LeavesShelf, first_world, TakesAll}
-use Rattle.evm_tool.specs.declared.top.Status.{Status}
-use Rattle.evm_tool.specs.declared.top.Status.TheVariants as ends
+use Rattle.evm_text.specs.Lines.{text_of}
+use Rattle.evm_tool.specs.EndedLines.{HasNoLf, IsCut}
+use Rattle.evm_tool.specs.Streams.{AppendsPart, line_kept}
+use Rattle.evm_tool.specs.Top.{LeavesShelf, first_world}
 
 -- the reply went out whole, or in part where the sink failed
 abbrev pub Sends : Result Bool Failed → Option (List ℕ) → Option (List ℕ) → Reply → Type 0

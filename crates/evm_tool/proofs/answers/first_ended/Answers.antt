@@ -1,4 +1,4 @@
-use Rattle.std.proofs.Common.{◌≡◌, ℕ, List, ◌∷◌, ◌++◌, sym, ◌∙◌, ap, take, drop, ◌+◌}
+use Rattle.std.proofs.Common.{ℕ, List, ◌∷◌, ◌++◌, sym, ◌∙◌, ap, take, ◌+◌}
 use Rattle.evm_text.proofs.LineCuts.{tail_is}
 use Rattle.evm_tool.proofs.Cuts.{first_is_lf, none_is_lf}
 use Rattle.evm_tool.proofs.answers.first_ended.Goals as goal

@@ -1,4 +1,4 @@
-use Rattle.evm_tool.proofs.Summaries.{summary_sent, summary_cut}
+use Rattle.evm_tool.proofs.Summaries.{summary_cut}
 use Rattle.evm_tool.proofs.generated.answer_generated.Goals as goal
 
 pub returns-in-Err-clause-text : goal.returns-in-Err-clause-text

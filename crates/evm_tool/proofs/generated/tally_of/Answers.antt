@@ -1,4 +1,4 @@
-use Rattle.std.proofs.Common.{◌≡◌, List, ℕ, ◌∷◌, refl, sym, ap, subst, ◌∙◌}
+use Rattle.std.proofs.Common.{List, ℕ, ◌∷◌, refl, sym, ap, subst, ◌∙◌}
 use Rattle.evm_generator.specs.Lines.{lines_left}
 use Rattle.evm_tool.specs.Generated.{SoFar, Replies}
 use Rattle.evm_tool.proofs.Summaries.{given_line, no_line, so_far_more, sums_of}

@@ -1,5 +1,4 @@
-use Rattle.std.proofs.Common.{refl, arith, rules, ◌<◌, ◌≤◌, ◌+◌, ◌≡◌}
-use Rattle.evm_tool.specs.Streams.{script_limit, piece_max}
+use Rattle.std.proofs.Common.{refl, arith, rules, ◌<◌}
 use Rattle.evm_tool.proofs.Stands.{stands_start, stands_fault, stands_last, stands_over, stands_turn, stands_cut}
 use Rattle.evm_tool.proofs.script.answer_script.Goals as goal
 
