@@ -536,15 +536,6 @@ class Session:
             lines += [f"part {len(rows)} {len(part)}"] + [" ".join(map(str, row)) for row in rows]
         return lines
 
-    def report(self, name):
-        cells, dim, words = self.cells[name], self.dim[name], self.formula[name] or ["input"]
-        rows = vertices(cells, dim)
-        reads = {"input": 0, "box": 0, "or": 2, "and": 2, "sub": 2, "xor": 2}.get(words[0], 1)
-        facts = {"boundary": str(boundary(cells, dim)), "content": str(len(cells)), "dim": dim, "high": [max(column) for column in zip(*rows)],
-                 "kind": words[0], "low": [min(column) for column in zip(*rows)], "name": name, "operands": list(words[1:1 + reads]),
-                 "parts": len(parts(cells)), "vertices": len(rows)}
-        return ["ok " + json.dumps(facts, separators=(",", ":"))]
-
     def faces(self, name, axis):
         refuse_if(not 1 <= int(axis) <= self.dim[name], "dim")
         cuts = faces(self.cells[name], int(axis) - 1)
