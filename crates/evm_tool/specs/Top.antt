@@ -187,15 +187,19 @@ TellsForm NoMemory asked = Unit {0}
 TellsForm status asked = asked ≡ None → ⊥
 
 -- a generated script was answered: its summary was written, and the source and the shelf are as before
-pub record Makes (status : Status) (seed edits : ℕ) (left left_now written written_now : Option (List ℕ)) (shelf shelf_now : ShelfView) : Type 0 where
+pub record Makes (status : Status) (seed edits : ℕ) (left left_now written written_now : Option (List ℕ))
+    (shelf shelf_now : ShelfView) : Type 0 where
   pub text : Generates status seed edits written written_now
   pub left_kept : left_now ≡ left
   pub shelf_kept : shelf_now ≡ shelf
 
 -- what words ask for was done; where they ask for nothing, nothing was
-abbrev pub Does : Option Form → Status → Option (List ℕ) → Option (List ℕ) → Option (List ℕ) → Option (List ℕ) → ShelfView → ShelfView → Type 0
-Does None status left left_now written written_now shelf shelf_now = Runs status left left_now written written_now shelf shelf_now
-Does (Some Run) status left left_now written written_now shelf shelf_now = Runs status left left_now written written_now shelf shelf_now
+abbrev pub Does : Option Form → Status → Option (List ℕ) → Option (List ℕ) → Option (List ℕ) → Option (List ℕ)
+    → ShelfView → ShelfView → Type 0
+Does None status left left_now written written_now shelf shelf_now =
+    Runs status left left_now written written_now shelf shelf_now
+Does (Some Run) status left left_now written written_now shelf shelf_now =
+    Runs status left left_now written written_now shelf shelf_now
 Does (Some (Gen seed edits)) status left left_now written written_now shelf shelf_now =
     Makes status seed edits left left_now written written_now shelf shelf_now
 
