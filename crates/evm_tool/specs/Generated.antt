@@ -59,14 +59,15 @@ RepliesTo (Ok fine) line old new text = Replies line old new text fine
 RepliesTo (Err lack) line old new text = Unit {0}
 
 -- one reply was counted, and kept where as many as are passed over came before
-pub record Counts (fine : Bool) (reply : List ℕ) (passed fine_old fine_new refused_old refused_new : ℕ)
-    (last_old last_new : List ℕ) : Type 0 where
+pub record Counts (fine : Bool) (reply : List ℕ)
+    (passed fine_old fine_new refused_old refused_new : ℕ) (last_old last_new : List ℕ) : Type 0 where
   pub fines : fine_new ≡ (if fine then fine_old + 1 else fine_old)
   pub refusals : refused_new ≡ (if fine then refused_old else refused_old + 1)
   pub kept : last_new ≡ (if nat_lt (fine_old + refused_old) passed then last_old else last_old ++ reply)
 
 -- the first lines of a script were answered, and these are left
-pub record SoFar (seed edits : ℕ) (left : List (List ℕ)) (scene : Scene) (fine refused : ℕ) (last : List ℕ) : Type 0 where
+pub record SoFar (seed edits : ℕ) (left : List (List ℕ)) (scene : Scene)
+    (fine refused : ℕ) (last : List ℕ) : Type 0 where
   pub marks : List Mark
   pub here : drop (length marks) (generated_lines seed edits) ≡ left
   pub most : length marks ≤ length (generated_lines seed edits)

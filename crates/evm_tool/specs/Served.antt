@@ -31,8 +31,8 @@ MissesOver (No Memory) before now = MayClimb before now
 MissesOver reply before now = now ≡ before
 
 -- with one of the marks that a line may have, its reply went out, and the scene and the shelf are those after it
-pub record Serves (result : Result Bool Failed) (old new : Scene) (before now : Option (List ℕ)) (line : List ℕ)
-    (shelf_old shelf_new : ShelfView) : Type 0 where
+pub record Serves (result : Result Bool Failed) (old new : Scene)
+    (before now : Option (List ℕ)) (line : List ℕ) (shelf_old shelf_new : ShelfView) : Type 0 where
   pub mark : Mark
   pub allowed : may_have (is_some shelf_old.files) (world_of old shelf_old.files) line mark ≡ true
   pub scene : new ≡ (answer (world_of old shelf_old.files) line mark).world.scene
@@ -43,8 +43,8 @@ pub record Serves (result : Result Bool Failed) (old new : Scene) (before now : 
   pub misses : MissesOver (answer (world_of old shelf_old.files) line mark).reply shelf_old.misses shelf_new.misses
 
 -- of these lines all but the rest were answered, and some reply refused or none did
-pub record Progress (ls rest : List (List ℕ)) (scene : Scene) (before now : Option (List ℕ)) (some : Bool)
-    (shelf_before shelf_now : ShelfView) : Type 0 where
+pub record Progress (ls rest : List (List ℕ)) (scene : Scene)
+    (before now : Option (List ℕ)) (some : Bool) (shelf_before shelf_now : ShelfView) : Type 0 where
   pub marks : List Mark
   pub most : length marks ≤ length ls
   pub left : drop (length marks) ls ≡ rest
@@ -110,7 +110,8 @@ abbrev pub KeepsOf : List ℕ → List ℕ → Type 0
 KeepsOf kept line = (kept ≡ line) ⊎ ((line_kept ≤ length kept) × (line_kept ≤ length line))
 
 -- so many bytes were taken, the lines that an LF ends among them were served, and this is kept of what follows the last of them
-pub record Stands (left left_now : Option (List ℕ)) (count : ℕ) (kept : List ℕ) (some : Bool) (old now : State) : Type 0 where
+pub record Stands (left left_now : Option (List ℕ)) (count : ℕ) (kept : List ℕ)
+    (some : Bool) (old now : State) : Type 0 where
   pub ls : List (List ℕ)
   pub rest : List ℕ
   pub each : All HasNoLf ls

@@ -79,7 +79,8 @@ pub record Begins (ls : List (List ℕ)) (gained : List ℕ) (before now : Shelf
 
 -- the sink failed at the reply to one of the lines, the k-th: those before it were answered whole, and of its own reply only a front
 -- was written. It was a whole line when it was answered: an LF ends it, or the input ends with it. At most one piece was taken after it
-pub record StopsAt (left_now : Option (List ℕ)) (taken gained : List ℕ) (before now : ShelfView) : Type 0 where
+pub record StopsAt (left_now : Option (List ℕ)) (taken gained : List ℕ)
+    (before now : ShelfView) : Type 0 where
   pub begins : Begins (lines taken) gained before now
   pub upto : List ℕ
   pub after : List ℕ
@@ -127,7 +128,8 @@ Takes NoMemory before now taken = Consumes before now taken × (taken ≡ [])
 Takes TooLong before now taken = Consumes before now taken × (length taken ≡ script_limit + 1)
 
 -- some bytes were taken, whatever they are, and what was written and left of the shelf is what a run of these bytes writes and leaves
-pub record Runs (status : Status) (left left_now written written_now : Option (List ℕ)) (shelf shelf_now : ShelfView) : Type 0 where
+pub record Runs (status : Status) (left left_now written written_now : Option (List ℕ))
+    (shelf shelf_now : ShelfView) : Type 0 where
   pub taken : List ℕ
   pub takes : Takes status left left_now taken
   pub gained : List ℕ
@@ -155,7 +157,8 @@ WriteFaults NoMemory before now = now ≡ before
 WriteFaults TooLong before now = now ≡ before
 
 -- all lines were answered; or memory was missing, no byte was taken and nothing was written
-abbrev pub IsAnswered : Status → Option (List ℕ) → Option (List ℕ) → Option (List ℕ) → Option (List ℕ) → Type 0
+abbrev pub IsAnswered : Status → Option (List ℕ) → Option (List ℕ)
+    → Option (List ℕ) → Option (List ℕ) → Type 0
 IsAnswered Done left left_now written written_now = Unit {0}
 IsAnswered Refused left left_now written written_now = Unit {0}
 IsAnswered Words left left_now written written_now = ⊥
@@ -165,8 +168,8 @@ IsAnswered NoMemory left left_now written written_now = Keeps left left_now × K
 IsAnswered TooLong left left_now written written_now = ⊥
 
 -- a script that is not too long is answered where neither the source nor the sink failed
-abbrev pub Finishes : Status → List ℕ → Option (List ℕ) → Option (List ℕ) → Option (List ℕ) → Option (List ℕ)
-    → ℕ → ℕ → ℕ → ℕ → Type 0
+abbrev pub Finishes : Status → List ℕ → Option (List ℕ) → Option (List ℕ)
+    → Option (List ℕ) → Option (List ℕ) → ℕ → ℕ → ℕ → ℕ → Type 0
 Finishes status script left left_now written written_now read_before read_now write_before write_now =
     length script ≤ script_limit
     → (Rose read_before read_now → ⊥)
@@ -174,8 +177,8 @@ Finishes status script left left_now written written_now read_before read_now wr
     → IsAnswered status left left_now written written_now
 
 -- so is one where the words ask for a run
-abbrev pub Completes : Status → Option Form → List ℕ → Option (List ℕ) → Option (List ℕ) → Option (List ℕ) → Option (List ℕ)
-    → ℕ → ℕ → ℕ → ℕ → Type 0
+abbrev pub Completes : Status → Option Form → List ℕ → Option (List ℕ) → Option (List ℕ)
+    → Option (List ℕ) → Option (List ℕ) → ℕ → ℕ → ℕ → ℕ → Type 0
 Completes status asked script left left_now written written_now read_before read_now write_before write_now =
     asked ≡ Some Run
     → Finishes status script left left_now written written_now read_before read_now write_before write_now
@@ -187,15 +190,15 @@ TellsForm NoMemory asked = Unit {0}
 TellsForm status asked = asked ≡ None → ⊥
 
 -- a generated script was answered: its summary was written, and the source and the shelf are as before
-pub record Makes (status : Status) (seed edits : ℕ) (left left_now written written_now : Option (List ℕ))
-    (shelf shelf_now : ShelfView) : Type 0 where
+pub record Makes (status : Status) (seed edits : ℕ)
+    (left left_now written written_now : Option (List ℕ)) (shelf shelf_now : ShelfView) : Type 0 where
   pub text : Generates status seed edits written written_now
   pub left_kept : left_now ≡ left
   pub shelf_kept : shelf_now ≡ shelf
 
 -- what words ask for was done; where they ask for nothing, nothing was
-abbrev pub Does : Option Form → Status → Option (List ℕ) → Option (List ℕ) → Option (List ℕ) → Option (List ℕ)
-    → ShelfView → ShelfView → Type 0
+abbrev pub Does : Option Form → Status → Option (List ℕ) → Option (List ℕ)
+    → Option (List ℕ) → Option (List ℕ) → ShelfView → ShelfView → Type 0
 Does None status left left_now written written_now shelf shelf_now =
     Runs status left left_now written written_now shelf shelf_now
 Does (Some Run) status left left_now written written_now shelf shelf_now =
