@@ -102,6 +102,19 @@ def scan(side):
     return ["input a 3", f"load a pgm 140 scan{side}.pgm", "content a", "boundary a"]
 
 
+def parts(side):
+    """The smooth stack, and all that is to be said of it, among it the number of its parts."""
+    return scan(side)[:2] + ["report a"]
+
+
+def separate(images):
+    """Separate cells, one in each block of eight, as a stack of images of 64 by 64 samples."""
+    with open(BUILD / f"separate{images}.pgm", "wb") as file:
+        for z in range(images):
+            file.write(b"P5 64 64 255\n" + bytes(0 if x % 2 or y % 2 or z % 2 else 255 for y in range(64) for x in range(64)))
+    return ["input a 3", f"load a pgm 128 separate{images}.pgm", "report a"]
+
+
 def plane(count):
     draw = Draw(3)
     for name in "ab":
@@ -237,7 +250,7 @@ def main():
     for name in ("voxels", "merge"):
         subprocess.run([os.environ.get("CXX", "g++"), "-O3", "-std=c++17", "-Wall", "-o", BUILD / name, HERE / f"{name}.cpp"], check=True)
     evm = program()
-    ENDS = time.monotonic() + 85
+    ENDS = time.monotonic() + 100
     bench = Bench(evm)
     bench.table("Exclusive or of two lists in space", "rows in each", (10000, 80000, 640000), bench.merges, "the merge loop", 0.00002)
     bench.table("Unions of random boxes in a cube of 64, four Booleans, measures", "boxes in each", (40, 160, 640), bench.voxels(booleans, 64), "dense arrays")
@@ -246,6 +259,8 @@ def main():
     bench.table("Toggles beside a scan of 409,600 vertices, two formulas", "toggles", (20, 200, 2000), bench.voxels(beside, 128), "dense arrays")
     bench.table("Small edits of a plan of 8000 boxes, one formula", "edits", (100, 1000, 10000), bench.alone(plan), "dense arrays")
     bench.table("A scan read and measured", "samples a side", (48, 96, 192), bench.voxels(scan, None), "dense arrays")
+    bench.table("A scan read, measured, and its parts counted", "samples a side", (64, 128, 256), bench.voxels(parts, None), "dense arrays")
+    bench.table("Separate cells read, measured, and their parts counted", "images of 64 by 64", (25, 50, 100), bench.voxels(separate, 128), "dense arrays")
     bench.table("Unions of boxes in a plane of 500000, four Booleans, measures", "boxes in each", (500, 2000, 8000), bench.alone(plane), "dense arrays")
     print("\n## Where the program loses\n")
     print("".join(f"- {each.format('slower')}\n" for each in bench.losses) or "- Nowhere here.\n")

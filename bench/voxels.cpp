@@ -3,7 +3,7 @@
 //     voxels SIDE < SCRIPT
 //
 // It answers what the scripts of run.py ask: input, toggle, add, cut, def (or, and, sub, xor, proj along 3, shift), load of a PGM stack,
-// content and boundary. An edit looks at the cells of its box alone, and so does each formula over it. Nothing is checked: all
+// content, boundary, and report of an input. An edit looks at the cells of its box alone, and so does each formula over it. Nothing is checked: all
 // lines are taken to be well formed and all cells to lie in the cube (those that a shift would move out of it are lost).
 #include <algorithm>
 #include <cstdint>
@@ -128,6 +128,62 @@ long boundary(const Solid &s) {
     return faces;
 }
 
+// The sets of cells that hang together by faces: each cell joins the sets of its neighbours just below it.
+int parts(const Solid &s) {
+    std::vector<int> parent(s.cells.size());
+    auto top = [&](int k) {
+        while (parent[k] != k) k = parent[k] = parent[parent[k]];
+        return k;
+    };
+    int count = 0;
+    const int steps[3] = {1, side, side * side};
+    for (int z = 0, k = 0; z < side; z++)
+        for (int y = 0; y < side; y++)
+            for (int x = 0; x < side; x++, k++) {
+                if (!s.cells[k]) continue;
+                parent[k] = k;
+                count++;
+                const int at[3] = {x, y, z};
+                for (int i = 0; i < 3; i++) {
+                    if (!at[i] || !s.cells[k - steps[i]]) continue;
+                    int a = top(k), b = top(k - steps[i]);
+                    if (a != b) parent[std::max(a, b)] = std::min(a, b), count--;
+                }
+            }
+    return count;
+}
+
+// The points round which an odd number of cells stand.
+long vertices(const Solid &s) {
+    long count = 0;
+    auto cell = [&](int x, int y, int z) { return x < 0 || y < 0 || z < 0 || x == side || y == side || z == side ? 0 : s.cells[place(x, y, z)]; };
+    for (int z = 0; z <= side; z++)
+        for (int y = 0; y <= side; y++) {
+            int before = 0;
+            for (int x = 0; x <= side; x++) {
+                int now = cell(x, y, z) ^ cell(x, y - 1, z) ^ cell(x, y, z - 1) ^ cell(x, y - 1, z - 1);
+                count += before ^ now;
+                before = now;
+            }
+        }
+    return count;
+}
+
+void report(const Solid &s, const string &name) {
+    Box box;
+    for (int &low : box.low) low = side;
+    for (int z = 0; z < side; z++)
+        for (int y = 0; y < side; y++)
+            for (int x = 0; x < side; x++) {
+                if (!s.cells[place(x, y, z)]) continue;
+                const int at[3] = {x, y, z};
+                for (int i = 0; i < 3; i++) box.low[i] = std::min(box.low[i], at[i]), box.high[i] = std::max(box.high[i], at[i] + 1);
+            }
+    printf("ok {\"boundary\":\"%ld\",\"content\":\"%ld\",\"dim\":3,\"high\":[%d,%d,%d],\"kind\":\"input\",\"low\":[%d,%d,%d],"
+           "\"name\":\"%s\",\"operands\":[],\"parts\":%d,\"vertices\":%ld}\n",
+           boundary(s), content(s), box.high[0], box.high[1], box.high[2], box.low[0], box.low[1], box.low[2], name.c_str(), parts(s), vertices(s));
+}
+
 // A PGM stack of one byte a sample, as other programs write it: no comments, one white space byte between the words.
 void load(Solid &s, int threshold, const string &name) {
     std::ifstream file(name, std::ios::binary | std::ios::ate);
@@ -183,6 +239,8 @@ int main(int, char **words) {
         } else if (command == "content" || command == "boundary") {
             const Solid &s = solids[numbers[name]];
             printf("ok %ld\n", command == "content" ? content(s) : boundary(s));
+        } else if (command == "report") {
+            report(solids[numbers[name]], name);
         } else if (command == "load") {
             int threshold;
             in >> word >> threshold >> word;
