@@ -1,10 +1,10 @@
 -- Edits of a scene: what refuses them, what they leave, and how many names they change.
-use Rattle.std.specs.Prelude.{ℕ, ◌*◌, ◌==◌, Bool, not, ◌&&◌, ◌||◌, if◌then◌else◌, ℤ, nat_abs, List, [], ◌∷◌, ◌++◌, length, Option, None, Some, count_by, bytes_eq}
+use Rattle.std.specs.Prelude.{ℕ, ◌*◌, ◌==◌, Bool, not, ◌&&◌, ◌||◌, if◌then◌else◌, ℤ, nat_abs, List, [], ◌∷◌, ◌++◌, length, Option, None, Some, is_some, count_by, bytes_eq}
 use Rattle.std.specs.List.{list_any, list_all}
 use Rattle.evm_cells.specs.Limits.{is_cell_coord, IsCellSet}
 use Rattle.evm_script.specs.declared.formula.Formula.{Formula}
 use Rattle.evm_model.specs.Figures.{Figure, low_of, high_of, box_at, xor_of, or_of, sub_of, box_fits, same_figure}
-use Rattle.evm_model.specs.Scene.{Scene, Entry, Given, stands, is_input, is_read, dim_of, value, reaches, operands, formula_dim, formula_fits, formula_in_range, is_axis, all_stay, with_figure, with_formula, with_new, without_name, is_dim}
+use Rattle.evm_model.specs.Scene.{Scene, Entry, Given, stands, is_input, is_read, dim_of, value, reaches, operands, formula_dim, formula_fits, formula_in_range, is_axis, all_stay, with_figure, with_formula, with_new, without_name, is_dim, is_watched, slot_at, slot_is_free, reading}
 
 -- an edit: a name, and the dimension of a new input, the numbers of a box, a figure in the place of an input's, a formula, or
 -- nothing more
@@ -37,14 +37,15 @@ EditFits (Replace name figure) = IsCellSet figure.dim figure.cells
 EditFits (Def name formula) = Unit {0}
 EditFits (Drop name) = Unit {0}
 
--- why a line is refused: it is too long, or no command; a name does not stand, or stands already; the name stands for the other
--- kind, an input or a formula; it is read by a formula; a formula would reach itself; the dimension or the count of numbers is
--- wrong; a number is past the limits; there is no file of a name, the shelf of files failed, or a file's bytes are none of the form;
--- or memory was missing
+-- why a line is refused: it is too long, or no command; a name does not stand; a slot has no free meter, or none that watches a
+-- name; a name stands already; it stands for the other kind, an input or a formula; it is read by a formula, or watched; a formula
+-- would reach itself; the dimension or the count of numbers is wrong; a number is past the limits; there is no file of a name, the
+-- shelf of files failed, or a file's bytes are none of the form; or memory was missing
 pub data Code : Type 0 where
   Line : Code
   Syntax : Code
   Name : Code
+  Meter : Code
   Taken : Code
   Kind : Code
   Used : Code
@@ -84,6 +85,16 @@ section_causes scene name axis at =
 -- what refuses a question about an axis
 abbrev pub axis_causes : Scene → List ℕ → ℤ → List (Bool × Code)
 axis_causes scene name axis = (not (stands scene name), Name) ∷ (not (is_axis (dim_of scene name) axis), Dim) ∷ []
+
+-- what refuses that a meter watches a name: the name does not stand; or there is no such slot, or its meter watches already or is
+-- given up
+abbrev pub attach_causes : Scene → ℤ → List ℕ → List (Bool × Code)
+attach_causes scene k name =
+    (not (stands scene name), Name) ∷ (not (slot_is_free (slot_at scene k)), Meter) ∷ []
+
+-- what refuses a command on the reading of a slot: it watches no name
+abbrev pub reading_causes : Scene → ℤ → List (Bool × Code)
+reading_causes scene k = (not (is_some (reading scene k)), Meter) ∷ []
 
 -- what refuses an edit of an input by a box
 abbrev pub box_causes : Scene → List ℕ → List ℤ → List (Bool × Code)
@@ -152,7 +163,8 @@ edit_causes scene (Cut name nums) = box_causes scene name nums ++ value_causes (
 edit_causes scene (Replace name figure) = figure_causes scene name figure
     ++ value_causes (after scene (Replace name figure))
 edit_causes scene (Def name formula) = def_causes scene name formula ++ value_causes (after scene (Def name formula))
-edit_causes scene (Drop name) = (not (stands scene name), Name) ∷ (is_read scene name, Used) ∷ []
+edit_causes scene (Drop name) =
+    (not (stands scene name), Name) ∷ (is_read scene name || is_watched scene name, Used) ∷ []
 
 -- the code that refuses an edit, or none
 abbrev pub refusal : Scene → Edit → Option Code

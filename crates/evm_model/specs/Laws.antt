@@ -3,6 +3,7 @@ use Rattle.std.specs.Prelude.{ℕ, ◌≡◌, ◌≢◌, ◌↔◌, ◌≤◌, �
 use Rattle.std.specs.List.{list_any, list_all, starts_with}
 use Rattle.evm_cells.specs.Places.{has, with_at}
 use Rattle.evm_cells.specs.Limits.{IsCellSet}
+use Rattle.evm_cells.specs.Localities.{Measure}
 use Rattle.evm_cells.specs.Shapes.{added}
 use Rattle.evm_text.specs.Lines.{lines}
 use Rattle.evm_script.specs.Line.{command}
@@ -19,10 +20,10 @@ use Rattle.evm_script.specs.declared.formula.Formula.TheVariants.{Shift, Lift}
 use Rattle.evm_model.specs.Figures.{Figure, nothing, box_at, xor_of, or_of, sub_of, same_figure}
 use Rattle.evm_model.specs.Files.{Fetches, form_fits, figure_in, figure_fetched, bytes_in}
 use Rattle.evm_model.specs.Orders.{is_among}
-use Rattle.evm_model.specs.Scene.{Scene, Entry, Made, start, entry_of, stands, dim_of, operands_of, formula_value, entry_value, value, reaches, is_read, all_stay, with_figure, is_dim, IsWell, IsOrderOf}
+use Rattle.evm_model.specs.Scene.{Scene, Entry, Made, Slot, Free, Watches, Gone, start_with, slot_at, reading, measure_of, attached, detached, entry_of, stands, dim_of, operands_of, formula_value, entry_value, value, reaches, is_read, all_stay, with_figure, is_dim, IsWell, IsOrderOf}
 use Rattle.evm_model.specs.Edits.{Edit, Input, Toggle, Add, Cut, Replace, Def, Drop, Missing, Shelf, Form, Memory, EditFits, name_of, refusal, after, changed, changed_names}
 use Rattle.evm_model.specs.Replies.{Reply, No, reply_text, line_of, is_no}
-use Rattle.evm_model.specs.Steps.{Way, Edits, Loads, Saves, way_of, step, fetches, asks, of_line}
+use Rattle.evm_model.specs.Steps.{Way, Edits, Loads, Saves, Hands, way_of, step, fetches, asks, of_line}
 use Rattle.evm_model.specs.Runs.{World, Mark, Plain, Fetched, answer, fetched_from, run, world_after}
 
 -- two figures that are cell sets are the same exactly where they are equal
@@ -46,10 +47,11 @@ RefusalChangesNothing = (fetched : Fetches) (scene : Scene) (line : List ℕ)
     → is_no (step fetched scene line).reply ≡ true
     → ((step fetched scene line).scene ≡ scene) × ((step fetched scene line).placed ≡ None)
 
--- a command that edits the scene
+-- a command that changes the scene: an edit, a load, or a change of a slot
 abbrev pub is_edit_way : Way → Bool
 is_edit_way (Edits edit) = true
 is_edit_way (Loads name form file) = true
+is_edit_way (Hands causes answer left) = true
 is_edit_way _ = false
 
 abbrev pub is_edit : Command → Bool
@@ -73,9 +75,9 @@ abbrev pub StepHasMemory : Type 0
 StepHasMemory = (fetched : Fetches) (scene : Scene) (line : List ℕ)
     → ((step fetched scene line).reply ≢ No Memory) × ((step fetched scene line).reply ≢ No Shelf)
 
--- the scene before the first line is well
+-- the scene before the first line is well, whatever meters are handed in
 abbrev pub StartIsWell : Type 0
-StartIsWell = IsWell start
+StartIsWell = (kinds : List Measure) → IsWell (start_with kinds)
 
 -- a line keeps a scene well
 abbrev pub StepsKeepWell : Type 0
@@ -236,6 +238,40 @@ ToggleChangesName = (scene : Scene) (name : List ℕ) (nums : List ℤ) → IsWe
 abbrev pub ToggleCountsName : Type 0
 ToggleCountsName = (scene : Scene) (name : List ℕ) (nums : List ℤ) → IsWell scene
     → refusal scene (Toggle name nums) ≡ None → 1 ≤ changed scene (Toggle name nums)
+
+-- ---- slots
+
+-- an edit leaves all slots
+abbrev pub EditsLeaveSlots : Type 0
+EditsLeaveSlots = (scene : Scene) (edit : Edit) → (after scene edit).slots ≡ scene.slots
+
+-- a change of a slot leaves all names
+abbrev pub SlotsLeaveNames : Type 0
+SlotsLeaveNames = (scene : Scene) (k : ℤ) (name : List ℕ)
+    → ((attached scene k name).entries ≡ scene.entries) × ((detached scene k).entries ≡ scene.entries)
+
+-- a meter that was handed to a name reads the measure of its value, of the kind that its slot had
+abbrev pub AttachedReadsValue : Type 0
+AttachedReadsValue = (scene : Scene) (k : ℤ) (name : List ℕ) (kind : Measure)
+    → slot_at scene k ≡ Some (Free kind)
+    → reading (attached scene k name) k ≡ Some (measure_of kind (value scene name))
+
+-- a slot that watches a name reads the measure of what the name's value is after an edit
+abbrev pub ReadingsFollowEdits : Type 0
+ReadingsFollowEdits = (scene : Scene) (edit : Edit) (k : ℤ) (name : List ℕ) (kind : Measure)
+    → slot_at scene k ≡ Some (Watches kind name)
+    → reading (after scene edit) k ≡ Some (measure_of kind (value (after scene edit) name))
+
+-- a slot whose meter was given up is gone for good
+abbrev pub GoneStays : Type 0
+GoneStays = (fetched : Fetches) (scene : Scene) (line : List ℕ) (k : ℤ)
+    → slot_at scene k ≡ Some Gone
+    → slot_at (step fetched scene line).scene k ≡ Some Gone
+
+-- a slot never changes its number, and no slot comes
+abbrev pub SlotsAreFixed : Type 0
+SlotsAreFixed = (fetched : Fetches) (scene : Scene) (line : List ℕ)
+    → length (step fetched scene line).scene.slots ≡ length scene.slots
 
 -- ---- loads and saves
 

@@ -6,13 +6,14 @@ use Rattle.evm_model.specs.Figures.{Figure, Place, Inside, Boundary, Outside, Cu
 use Rattle.evm_report.specs.Report.{Facts, report_text}
 use Rattle.evm_script.specs.Printed.{formula_words}
 use Rattle.evm_model.specs.Scene.{Entry, What, Given, Made}
-use Rattle.evm_model.specs.Edits.{Code, Line, Syntax, Name, Taken, Kind, Used, Cycle, Dim, Range, Missing, Shelf, Form, Memory}
+use Rattle.evm_model.specs.Edits.{Code, Line, Syntax, Name, Meter, Taken, Kind, Used, Cycle, Dim, Range, Missing, Shelf, Form, Memory}
 
--- nothing, a refusal, how many names changed, a figure, a measure, whether a cell is filled, the place of a point, the faces at the
+-- nothing, a refusal, that it is done, how many names changed, a figure, a measure, whether a cell is filled, the place of a point, the faces at the
 -- cuts of an axis, the parts of a figure, a report, or the names
 pub data Reply : Type 0 where
   Empty : Reply
   No : Code → Reply
+  Done : Reply
   Changed : ℕ → Reply
   Shown : Figure → Reply
   Measured : ℕ → Reply
@@ -28,6 +29,7 @@ abbrev pub code_text : Code → List ℕ
 code_text Line = codes "line"
 code_text Syntax = codes "syntax"
 code_text Name = codes "name"
+code_text Meter = codes "meter"
 code_text Taken = codes "taken"
 code_text Kind = codes "kind"
 code_text Used = codes "used"
@@ -90,6 +92,7 @@ entries_text entries = flat_map (λ (e : Entry). line_of (join_with_byte 32 (ent
 unfoldable pub reply_text : Reply → List ℕ
 reply_text Empty = []
 reply_text (No code) = line_of (codes "no " ++ code_text code)
+reply_text Done = line_of (codes "ok")
 reply_text (Changed n) = line_of (codes "ok " ++ decimal n)
 reply_text (Shown a) = line_of (codes "ok " ++ decimal a.dim ++ 32 ∷ decimal (length (vertices_in a)))
     ++ rows_text (vertices_in a)
@@ -105,6 +108,7 @@ reply_text (Listed entries) = line_of (codes "ok " ++ decimal (length entries)) 
 abbrev pub is_no : Reply → Bool
 is_no Empty = false
 is_no (No code) = true
+is_no Done = false
 is_no (Changed n) = false
 is_no (Shown a) = false
 is_no (Measured n) = false

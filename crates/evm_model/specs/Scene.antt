@@ -1,8 +1,9 @@
--- A scene: names in the order of their making, each with a dimension and what it stands for.
-use Rattle.std.specs.Prelude.{ℕ, zero, suc, ◌≡◌, Bool, true, false, not, ◌&&◌, ◌||◌, if◌then◌else◌, ℤ, pos, List, [], ◌∷◌, ◌++◌, length, Option, None, Some, find, is_some, bytes_eq}
-use Rattle.std.specs.List.{list_any, list_all}
+-- A scene: names in the order of their making, each with a dimension and what it stands for, and the slots of meters.
+use Rattle.std.specs.Prelude.{ℕ, zero, suc, ◌≡◌, Bool, true, false, not, ◌&&◌, ◌||◌, if◌then◌else◌, ℤ, pos, int_lt, nat_abs, List, [], ◌∷◌, ◌++◌, length, map, set, Option, None, Some, find, is_some, bytes_eq}
+use Rattle.std.specs.List.{list_any, list_all, slice_get}
 use Rattle.evm_cells.specs.Places.{ascending}
 use Rattle.evm_cells.specs.Limits.{is_cell}
+use Rattle.evm_cells.specs.Localities.{Measure, measure}
 use Rattle.evm_script.specs.declared.formula.Formula.{Formula}
 use Rattle.evm_model.specs.Figures.{Figure, nothing}
 use Rattle.evm_model.specs.Formulas.{parts_of, parts_dim, parts_fit, parts_in_range, parts_are_sound}
@@ -20,13 +21,24 @@ pub record Entry : Type 0 where
   pub dim : ℕ
   pub what : What
 
--- the names, in the order of their making
+-- a slot: its meter, of some kind, is free or watches a name; or the meter was given up, and the slot is gone
+pub data Slot : Type 0 where
+  Free : Measure → Slot
+  Watches : Measure → List ℕ → Slot
+  Gone : Slot
+
+-- the names, in the order of their making, and the slots of the meters that were handed in
 pub record Scene : Type 0 where
   pub entries : List Entry
+  pub slots : List Slot
 
--- the scene at the start
+-- the scene at the start, with free meters of these kinds
+abbrev pub start_with : List Measure → Scene
+start_with kinds = record { entries = []; slots = map Free kinds }
+
+-- the scene at the start, without meters
 abbrev pub start : Scene
-start = record { entries = [] }
+start = start_with []
 
 -- whether an entry is of this name
 abbrev pub has_name : List ℕ → Entry → Bool
@@ -118,6 +130,60 @@ reaches scene x y = reaches_within (length scene.entries) scene.entries x y
 abbrev pub is_read : Scene → List ℕ → Bool
 is_read scene name = list_any (λ (e : Entry). is_among name (what_operands e.what)) scene.entries
 
+-- whether a slot watches this name
+abbrev pub slot_watches : List ℕ → Slot → Bool
+slot_watches name (Free kind) = false
+slot_watches name (Watches kind other) = bytes_eq name other
+slot_watches name Gone = false
+
+-- whether some slot watches this name
+abbrev pub is_watched : Scene → List ℕ → Bool
+is_watched scene name = list_any (slot_watches name) scene.slots
+
+-- the slot of a number, counted from 0, or none where no slot has it
+abbrev pub slot_at : Scene → ℤ → Option Slot
+slot_at scene k = if int_lt k (pos 0) then None else slice_get scene.slots (nat_abs k)
+
+-- whether there is a slot, and its meter is free
+abbrev pub slot_is_free : Option Slot → Bool
+slot_is_free (Some (Free kind)) = true
+slot_is_free (Some (Watches kind name)) = false
+slot_is_free (Some Gone) = false
+slot_is_free None = false
+
+-- the kind of a meter that is not given up, and the name that it watches from now on
+abbrev pub handed : List ℕ → Option Slot → Slot
+handed name (Some (Free kind)) = Watches kind name
+handed name (Some (Watches kind other)) = Watches kind name
+handed name (Some Gone) = Gone
+handed name None = Gone
+
+-- the measure of a figure
+abbrev pub measure_of : Measure → Figure → ℕ
+measure_of kind figure = measure kind figure.dim figure.cells
+
+-- what a slot reads, at the values of names: the measure of the value of the name that it watches, or none where it watches none
+abbrev pub slot_reading : (List ℕ → Figure) → Option Slot → Option ℕ
+slot_reading at (Some (Free kind)) = None
+slot_reading at (Some (Watches kind name)) = Some (measure_of kind (at name))
+slot_reading at (Some Gone) = None
+slot_reading at None = None
+
+-- what the slot of a number reads in a scene
+abbrev pub reading : Scene → ℤ → Option ℕ
+reading scene k = slot_reading (value scene) (slot_at scene k)
+
+-- the scene with another slot of this number
+abbrev pub with_slot : Scene → ℤ → Slot → Scene
+with_slot scene k slot = record scene { slots = set scene.slots (nat_abs k) slot }
+
+-- the scene in which the meter of this slot watches a name, and that in which it is given up
+abbrev pub attached : Scene → ℤ → List ℕ → Scene
+attached scene k name = with_slot scene k (handed name (slot_at scene k))
+
+abbrev pub detached : Scene → ℤ → Scene
+detached scene k = with_slot scene k Gone
+
 -- the entries with another in the place of the first of this name
 abbrev pub with_entry : List Entry → List ℕ → Entry → List Entry
 with_entry [] name new = []
@@ -179,7 +245,7 @@ what_is_sound scene dim (Given cells) = ascending cells && list_all (is_cell dim
 what_is_sound scene dim (Made formula) = parts_are_sound dim (parts_of formula) (dim_of scene)
 
 -- what each scene of a run keeps: names differ, dimensions are those that named solids have, each entry is sound, no formula
--- makes a place that is no cell, operands stand, and no name reaches itself
+-- makes a place that is no cell, operands stand, no name reaches itself, and watched names stand
 pub record IsWell (scene : Scene) : Type 0 where
   pub names : names_differ scene.entries ≡ true
   pub dims : list_all (λ (e : Entry). is_dim (pos e.dim)) scene.entries ≡ true
@@ -187,6 +253,7 @@ pub record IsWell (scene : Scene) : Type 0 where
   pub stay : all_stay scene ≡ true
   pub stand : (x o : List ℕ) → is_among o (operands_of scene.entries x) ≡ true → stands scene o ≡ true
   pub acyclic : (x : List ℕ) → reaches scene x x ≡ false
+  pub watched : (x : List ℕ) → is_watched scene x ≡ true → stands scene x ≡ true
 
 -- an order of the names of a scene in which the operands of each come before it
 pub record IsOrderOf (scene : Scene) (order : List (List ℕ)) : Type 0 where

@@ -10,9 +10,9 @@ use Rattle.evm_script.specs.declared.files.LoadForm.{LoadForm}
 use Rattle.evm_script.specs.declared.files.SaveForm.{SaveForm}
 use Rattle.evm_model.specs.Figures.{Figure, content_of, boundary_of, fills, place_of, slice_of, proj_of, faces_of, parts_of}
 use Rattle.evm_model.specs.Files.{Fetches, form_fits, form_in_range, figure_fetched, or_nothing, save_fits, bytes_in}
-use Rattle.evm_model.specs.Scene.{Scene, value, stands, dim_of, is_input}
-use Rattle.evm_model.specs.Edits.{Edit, Input, Toggle, Add, Cut, Replace, Def, Drop, Code, Line, Syntax, Name, Kind, Dim, Range, Missing, Form, first_cause, name_causes, place_causes, section_causes, axis_causes, value_causes, refusal, after, changed}
-use Rattle.evm_model.specs.Replies.{Reply, Empty, No, Changed, Shown, Measured, Filled, Placed, Faced, Parted, Reported, Listed}
+use Rattle.evm_model.specs.Scene.{Scene, value, stands, dim_of, is_input, reading, attached, detached}
+use Rattle.evm_model.specs.Edits.{Edit, Input, Toggle, Add, Cut, Replace, Def, Drop, Code, Line, Syntax, Name, Kind, Dim, Range, Missing, Form, first_cause, name_causes, place_causes, attach_causes, reading_causes, section_causes, axis_causes, value_causes, refusal, after, changed}
+use Rattle.evm_model.specs.Replies.{Reply, Empty, No, Done, Changed, Shown, Measured, Filled, Placed, Faced, Parted, Reported, Listed}
 use Rattle.evm_model.specs.Reports.{reported}
 
 -- what a line does: its reply, the scene after it, and the file that it places, as a name and its bytes
@@ -38,6 +38,16 @@ edited scene edit reply =
 -- a question that is refused by one of these causes or answered
 abbrev pub asked : List (Bool × Code) → Scene → Reply → Turn
 asked causes scene reply = unless_refused (first_cause causes) scene (stays scene reply)
+
+-- a change of a slot that is refused by one of these causes or made
+abbrev pub handed_on : List (Bool × Code) → Scene → Reply → Scene → Turn
+handed_on causes scene reply left =
+    unless_refused (first_cause causes) scene (record { reply = reply; scene = left; placed = None })
+
+-- a reading as an answer; what refuses the line comes first where there is none
+abbrev pub read_off : Option ℕ → Reply
+read_off None = Empty
+read_off (Some n) = Measured n
 
 -- what refuses a load before its file is fetched
 abbrev pub load_causes : Scene → List ℕ → LoadForm → List (Bool × Code)
@@ -82,12 +92,14 @@ saved scene file bytes = record { reply = Measured (length bytes); scene = scene
 abbrev pub save_turn : Scene → List ℕ → SaveForm → List ℕ → Turn
 save_turn scene name form file = unless_refused (first_cause (save_causes scene name form)) scene (saved scene file (bytes_in form (value scene name)))
 
--- the ways that commands go: an edit; a question, with what refuses it and its answer; a load; and a save
+-- the ways that commands go: an edit; a question, with what refuses it and its answer; a load; a save; and a change of a slot, with
+-- what refuses it, its answer and the scene after it
 pub data Way : Type 0 where
   Edits : Edit → Way
   Asks : (Scene → List (Bool × Code)) → (Scene → Reply) → Way
   Loads : List ℕ → LoadForm → List ℕ → Way
   Saves : List ℕ → SaveForm → List ℕ → Way
+  Hands : (Scene → List (Bool × Code)) → (Scene → Reply) → (Scene → Scene) → Way
 
 -- a question about the value of a name
 abbrev pub of_value : List ℕ → (Scene → List (Bool × Code)) → (Figure → Reply) → Way
@@ -103,6 +115,14 @@ way_of (commands.Cut name nums) = Edits (Cut name nums)
 way_of (commands.Load name form file) = Loads name form file
 way_of (commands.Def name formula) = Edits (Def name formula)
 way_of (commands.Drop name) = Edits (Drop name)
+way_of (commands.Meter slot name) =
+    Hands (λ scene. attach_causes scene slot name)
+    (λ scene. read_off (reading (attached scene slot name) slot))
+    (λ scene. attached scene slot name)
+way_of (commands.Read slot) =
+    Asks (λ scene. reading_causes scene slot) (λ scene. read_off (reading scene slot))
+way_of (commands.Unmeter slot) =
+    Hands (λ scene. reading_causes scene slot) (λ scene. Done) (λ scene. detached scene slot)
 way_of commands.List = Asks (λ scene. []) (λ scene. Listed scene.entries)
 way_of (commands.Show name) = of_value name (λ scene. name_causes scene name) (λ a. Shown a)
 way_of (commands.Section name axis at) =
@@ -135,6 +155,7 @@ way_turn fetched scene (Edits edit) = edited scene edit (edit_reply scene edit)
 way_turn fetched scene (Asks causes answer) = asked (causes scene) scene (answer scene)
 way_turn fetched scene (Loads name form file) = load_turn fetched scene name form file
 way_turn fetched scene (Saves name form file) = save_turn scene name form file
+way_turn fetched scene (Hands causes answer left) = handed_on (causes scene) scene (answer scene) (left scene)
 
 -- what a command does
 abbrev pub turn_of : Fetches → Scene → Command → Turn

@@ -5,12 +5,15 @@
 //! definitions keep.
 //!
 //! A **scene** is a list of names in the order of their making, each with a dimension and what it stands for: the cells of an
-//! input, or a formula over other names, its operands. A **figure** is a cell set with its dimension. The **value** of a name is
+//! input, or a formula over other names, its operands; and a list of **slots**, each with a meter of some kind that is free,
+//! watches a name, or was given up. A **figure** is a cell set with its dimension. The **value** of a name is
 //! a figure: the cells of an input, or what a formula makes of the values of its operands. A name **reaches** its operands and
 //! what they reach. A scene is **well** where names differ, dimensions are 2 to 6, each input is a cell set, each formula fits
-//! its operands, no shift and no lift makes a place out of the limits, operands stand, and no name reaches itself.
+//! its operands, no shift and no lift makes a place out of the limits, operands stand, no name reaches itself, and watched names
+//! stand.
 //! A **step** is what one line does: its reply, the scene after it, and the file that it places. It is given what a fetch of
-//! each file name gives. A command goes one of four **ways**: an edit, a question, a load or a save. A **world** is a scene
+//! each file name gives. A command goes one of five **ways**: an edit, a question, a load, a save, or
+//! a change of a slot. A **world** is a scene
 //! and the files of a shelf. A **run** takes the lines of a script in order, each with a mark that says whether it was
 //! answered, memory was missing, or the shelf failed; where a shelf does not tell its files, the mark also says what a load
 //! fetched.
@@ -25,6 +28,7 @@ ghost use Rattle.evm_model.specs.Laws.{ShiftsMoveAllCells, LiftsKeepAllCells, Op
 ghost use Rattle.evm_model.specs.Laws.{OthersStay, OthersStand, InputsStartEmpty, BoxesCombine, ReplacementsHold, DefinitionsHold, DropsTakeOut};
 ghost use Rattle.evm_model.specs.Laws.{ChangedReachName, NewNamesChangeNone, DropsChangeNone, OneNameChanges};
 ghost use Rattle.evm_model.specs.Laws.{SameFigureStays, ToggleChangesName, ToggleCountsName};
+ghost use Rattle.evm_model.specs.Laws.{EditsLeaveSlots, SlotsLeaveNames, AttachedReadsValue, ReadingsFollowEdits, GoneStays, SlotsAreFixed};
 ghost use Rattle.evm_model.specs.Laws.{LoadsReadTheirFile, OthersReadNone, LoadsTakeFigure, MissingIsNoFile, MissingIsFetched, FormIsNoFigure};
 ghost use Rattle.evm_model.specs.Laws.{SavesPlaceValues, OnlySavesPlace, ShelfIsAsked, SavedBytesTellSolids, SavedBytesTellNames, SavedBytesLoad, SavedBoxesLoad, FiguresAreCellSets};
 ghost use Rattle.evm_model.specs.Laws.{RefusedLeavesWorld, AnswersKeepWell, RunsKeepWell, RunLeavesFiles, SavedFileIsThere, FetchedIsTold};
@@ -120,6 +124,23 @@ pub fn changes_are_counted()
     ensures stays { SameFigureStays }
     ensures toggle { ToggleChangesName }
     ensures toggled { ToggleCountsName }
+{}
+
+/// Slots of meters, and what they read.
+///
+/// - `edits`: an edit leaves all slots.
+/// - `names`: a change of a slot leaves all names.
+/// - `attached`: a meter that is handed to a name reads the measure of its value.
+/// - `follow`: a slot that watches a name reads the measure of the value that the name has after an edit.
+/// - `gone`: a slot whose meter was given up is gone for good.
+/// - `fixed`: there are as many slots after each line as before.
+pub fn meters_watch_names()
+    ensures edits { EditsLeaveSlots }
+    ensures names { SlotsLeaveNames }
+    ensures attached { AttachedReadsValue }
+    ensures follow { ReadingsFollowEdits }
+    ensures gone { GoneStays }
+    ensures fixed { SlotsAreFixed }
 {}
 
 /// Loads read files.
