@@ -40,7 +40,7 @@ formula_entry scene name formula = by (stands scene name) refl
     new = made_entry scene name formula
 
     by : (b : Bool) → stands scene name ≡ b
-        → entry_of (cond {A = Scene} b (record { entries = with_entry scene.entries name new }) (with_new scene name (formula_dim scene formula) (Made formula))).entries name ≡ Some new
+        → entry_of (cond {A = Scene} b (record scene { entries = with_entry scene.entries name new }) (with_new scene name (formula_dim scene formula) (Made formula))).entries name ≡ Some new
     by true h = with_own scene.entries name new refl h
     by false h = push_own scene.entries new h
 
@@ -65,7 +65,7 @@ same_keeps scene name other well =
     by_test (stands scene name)
     (λ h. sym (value_unique u order (ordered_less (operands_of scene.entries) (operands_of u.entries) [] order (λ x m o r. less h x o r) is.ordered)
     (λ x. is.whole x ∙ sym (with_stands scene.entries name x entry refl)) (is.size ∙ sym (length-with scene.entries name entry)) (value scene) (fixed h) other))
-    (λ h. ap (λ (s : Scene). value s other) (λ i. record { entries = with_none scene.entries name entry h i }))
+    (λ h. ap (λ (s : Scene). value s other) (λ i. record scene { entries = with_none scene.entries name entry h i }))
   where
     entry : Entry
     entry = record { name = name; dim = (value scene name).dim; what = Given (value scene name).cells }

@@ -52,7 +52,7 @@ well_def scene name formula well r = by (stands scene name) refl d.stay
     d = definition scene name formula r
 
     changed_scene : Scene
-    changed_scene = record { entries = with_entry scene.entries name (made_entry scene name formula) }
+    changed_scene = record scene { entries = with_entry scene.entries name (made_entry scene name formula) }
 
     new_scene : Scene
     new_scene = with_new scene name (formula_dim scene formula) (Made formula)
@@ -76,7 +76,7 @@ well_edit scene (Add name nums) well fits r = well_box Or scene name nums well (
 well_edit scene (Cut name nums) well fits r = well_box Sub scene name nums well (box_for sub_of scene name nums r).stay
 well_edit scene (Replace name figure) well fits r = well_replace scene name figure well fits r
 well_edit scene (Def name formula) well fits r = well_def scene name formula well r
-well_edit scene (Drop name) well fits r = let d = drops scene name r in well_without scene name well d.standing d.unread
+well_edit scene (Drop name) well fits r = let d = drops scene name r in well_without scene name well d.standing d.unread d.unwatched
 
 -- an edit that is not refused leaves no formula that makes a place out of the limits, whatever figure it states
 stay_edit : (scene : Scene) (edit : Edit) → IsWell scene → refusal scene edit ≡ None → all_stay (after scene edit) ≡ true

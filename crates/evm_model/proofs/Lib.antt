@@ -9,10 +9,12 @@ pub mod Stays
 pub mod WellEdits
 pub mod FigureLaws
 pub mod Refusals
+pub mod WellSlots
 pub mod EditLaws
 pub mod ChangeLaws
 pub mod ReplyLaws
 pub mod StepLaws
+pub mod SlotLaws
 pub mod LineLaws
 pub mod FileLaws
 pub mod LoadLaws

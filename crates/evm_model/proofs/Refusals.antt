@@ -8,7 +8,7 @@ use Rattle.evm_script.specs.declared.formula.Formula.{Formula}
 use Rattle.evm_model.specs.Formulas.{Shape, Slice, Proj, Lift, shape_dim, shape_fits, Parts, Both, Block, Shaped, parts_of, parts_operands, parts_dim, parts_fit}
 use Rattle.evm_model.specs.Figures.{Figure, box_fits, low_of, high_of}
 use Rattle.evm_model.specs.Orders.{is_among}
-use Rattle.evm_model.specs.Scene.{Scene, stands, dim_of, is_input, is_read, reaches, operands, is_dim, is_axis, with_figure, with_formula, formula_dim, formula_fits, formula_in_range, all_stay, IsWell}
+use Rattle.evm_model.specs.Scene.{Scene, stands, dim_of, is_input, is_read, is_watched, reaches, operands, is_dim, is_axis, with_figure, with_formula, formula_dim, formula_fits, formula_in_range, all_stay, IsWell}
 use Rattle.evm_model.specs.Edits.{Input, Replace, Def, Drop, Code, first_cause, box_causes, edit_causes, value_causes, with_box, refusal}
 use Rattle.evm_model.proofs.Names.{or_none, among_here, passes_none, not_true, not_false}
 use Rattle.evm_model.proofs.Stays.{is_before, before_both}
@@ -125,9 +125,13 @@ definition scene name formula r = record {
 pub record IsDrop (scene : Scene) (name : List ℕ) : Type 0 where
   pub standing : stands scene name ≡ true
   pub unread : is_read scene name ≡ false
+  pub unwatched : is_watched scene name ≡ false
 
 pub drops : (scene : Scene) (name : List ℕ) → refusal scene (Drop name) ≡ None → IsDrop scene name
-drops scene name r = let h = none_holds (edit_causes scene (Drop name)) r in record { standing = not_false (stands scene name) h.0; unread = h.1.0 }
+drops scene name r =
+    let h = none_holds (edit_causes scene (Drop name)) r in
+    let free = or_none (is_read scene name) (is_watched scene name) h.1.0 in
+    record { standing = not_false (stands scene name) h.0; unread = free.0; unwatched = free.1 }
 
 -- the dimension that a command states
 pub dim_stated : (dim : ℤ) → is_dim dim ≡ true → is_dim (pos (nat_abs dim)) ≡ true

@@ -7,12 +7,13 @@ use Rattle.std.proofs.lemmas.List.{append_assoc}
 use Rattle.evm_model.specs.Figures.{Figure, CutFaces, vertices_in, content_of}
 use Rattle.evm_report.specs.Report.{report_text}
 use Rattle.evm_model.specs.Scene.{Entry}
-use Rattle.evm_model.specs.Replies.{Reply, Empty, No, Changed, Shown, Measured, Filled, Placed, Faced, Parted, Reported, Listed, reply_text, line_of, rows_text, spaced, cuts_text, part_text, parts_text, entry_words, entries_text, code_text, place_text, is_no}
+use Rattle.evm_model.specs.Replies.{Reply, Empty, No, Done, Changed, Shown, Measured, Filled, Placed, Faced, Parted, Reported, Listed, reply_text, line_of, rows_text, spaced, cuts_text, part_text, parts_text, entry_words, entries_text, code_text, place_text, is_no}
 
 pub begins : (reply : Reply) → starts_with nat_eq (reply_text reply) (codes "no") ≡ is_no reply
 unfolding reply_text
 begins Empty = refl
 begins (No code) = refl
+begins Done = refl
 begins (Changed n) = refl
 begins (Shown a) = refl
 begins (Measured n) = refl
@@ -72,6 +73,7 @@ pub are_lines : (reply : Reply) → IsLines (reply_text reply)
 unfolding reply_text
 are_lines Empty = inl refl
 are_lines (No code) = one_line (codes "no " ++ code_text code)
+are_lines Done = one_line (codes "ok")
 are_lines (Changed n) = one_line (codes "ok " ++ decimal n)
 are_lines (Shown a) = then_lines (codes "ok " ++ decimal a.dim ++ 32 ∷ decimal (length (vertices_in a))) (rows_text (vertices_in a)) (rows_lines (vertices_in a))
 are_lines (Measured n) = one_line (codes "ok " ++ decimal n)

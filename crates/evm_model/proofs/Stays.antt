@@ -56,7 +56,7 @@ at_new s name dim what = (
 pub at_formula : (s : Scene) (name : List ℕ) (formula : Formula) → IsAt s name (with_formula s name formula)
 at_formula s name formula = by (stands s name)
   where
-    by : (b : Bool) → IsAt s name (cond b (record { entries = with_entry s.entries name (made_entry s name formula) }) (with_new s name (formula_dim s formula) (Made formula)))
+    by : (b : Bool) → IsAt s name (cond b (record s { entries = with_entry s.entries name (made_entry s name formula) }) (with_new s name (formula_dim s formula) (Made formula)))
     by true = (
       λ x d. with_other s.entries name x (made_entry s name formula) refl d,
       omega (arith, length-with s.entries name (made_entry s name formula)),

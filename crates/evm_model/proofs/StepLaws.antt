@@ -1,8 +1,10 @@
 -- What a line leaves in a scene, and which files it reads and places.
-use Rattle.std.proofs.Common.{◌≡◌, Bool, true, false, not, ◌&&◌, ◌||◌, List, ◌++◌, Option, Some, None, Result, Ok, Err, refl, sym, ap, ◌∙◌}
-use Rattle.std.specs.Prelude.{ℕ, is_none}
-use Rattle.std.specs.List.{list_all}
+use Rattle.std.proofs.Common.{◌≡◌, Bool, true, false, not, ◌&&◌, ◌||◌, List, [], ◌∷◌, ◌++◌, length, map, Option, Some, None, Result, Ok, Err, refl, sym, ap, ◌∙◌}
+use Rattle.std.specs.Prelude.{ℕ, ℤ, nat_abs, is_none, slice_get}
+use Rattle.std.specs.List.{list_any, list_all}
+use Rattle.std.proofs.lemmas.List.{length-set}
 use Rattle.std.proofs.lemmas.Bool.{false≢true}
+use Rattle.evm_cells.specs.Localities.{Measure}
 use Rattle.evm_script.specs.Line.{command}
 use Rattle.evm_script.specs.declared.command.Command.{Command}
 use Rattle.evm_script.specs.declared.command.Command.TheVariants as commands
@@ -11,14 +13,15 @@ use Rattle.evm_script.specs.declared.command.LineError.TheVariants as faults
 use Rattle.evm_script.specs.declared.files.LoadForm.{LoadForm}
 use Rattle.evm_script.specs.declared.files.SaveForm.{SaveForm}
 use Rattle.evm_model.specs.Files.{Fetches, bytes_in}
-use Rattle.evm_model.specs.Scene.{Scene, start, value, IsWell}
+use Rattle.evm_model.specs.Scene.{Scene, Free, Gone, start_with, slot_watches, slot_at, handed, reading, attached, detached, value, IsWell}
 use Rattle.evm_model.specs.Edits as codes
-use Rattle.evm_model.specs.Edits.{Edit, Input, Toggle, Add, Cut, Replace, Def, Drop, EditFits, Code, Missing, Shelf, Memory, first_cause, name_causes, place_causes, section_causes, axis_causes, edit_causes, refusal, after, changed}
-use Rattle.evm_model.specs.Replies.{Reply, No, Changed, is_no}
+use Rattle.evm_model.specs.Edits.{Edit, Input, Toggle, Add, Cut, Replace, Def, Drop, EditFits, Code, Missing, Shelf, Memory, first_cause, name_causes, place_causes, attach_causes, reading_causes, section_causes, axis_causes, edit_causes, refusal, after, changed}
+use Rattle.evm_model.specs.Replies.{Reply, No, Done, Changed, is_no}
 use Rattle.evm_model.specs.Laws.{is_edit, is_edit_way, is_save, is_save_way}
-use Rattle.evm_model.specs.Steps.{fault_reply, Way, Edits, Asks, Loads, Saves, way_of, way_turn, way_fetches, way_asks, edit_reply, save_causes, command_asks, asks, Turn, stays, unless_refused, edited, load_causes, loaded, file_causes, load_turn, saved, turn_of, line_turn, step, command_fetches, of_line, fetches}
+use Rattle.evm_model.specs.Steps.{fault_reply, Way, Edits, Asks, Loads, Saves, Hands, read_off, way_of, way_turn, way_fetches, way_asks, edit_reply, save_causes, command_asks, asks, Turn, stays, unless_refused, edited, load_causes, loaded, file_causes, load_turn, saved, turn_of, line_turn, step, command_fetches, of_line, fetches}
 use Rattle.evm_model.proofs.EditLaws.{well_edit}
-use Rattle.evm_model.proofs.Names.{not_true, among_none, or-false}
+use Rattle.evm_model.proofs.WellSlots.{well_attached, well_detached, handover, gone_attached, gone_detached}
+use Rattle.evm_model.proofs.Names.{not_both, not_true, among_none, or-false}
 use Rattle.evm_model.proofs.LoadLaws.{first_passes, first_front, some_cause, well_load}
 
 -- the codes that come by a mark alone
@@ -71,14 +74,47 @@ mild_unless test scene turn causes m n = by_cause (first_cause causes) refl
     by_cause None e = mild_reply test scene turn n
     by_cause (Some code) e = (λ h. (refl, refl), not_true (test code) (first_passes (λ c. not (test c)) causes code m e))
 
+-- causes without an outer code, and an answer that does not refuse
+abbrev IsMildly : List (Bool × Code) → Reply → Type 0
+IsMildly causes answer = (list_all (λ (c : Bool × Code). not (is_outer c.1)) causes ≡ true) × (is_no answer ≡ false)
+
+-- a change of a slot refuses by no outer code, keeps a scene well, and leaves as many slots, and what is gone
+pub record IsHanding (causes : Scene → List (Bool × Code)) (answer : Scene → Reply) (left : Scene → Scene) : Type 0 where
+  pub mildly : (scene : Scene) → IsMildly (causes scene) (answer scene)
+  pub well : (scene : Scene) → IsWell scene → first_cause (causes scene) ≡ None → IsWell (left scene)
+  pub fixed : (scene : Scene) → length (left scene).slots ≡ length scene.slots
+  pub gone : (scene : Scene) (i : ℕ) → slice_get scene.slots i ≡ Some Gone → slice_get (left scene).slots i ≡ Some Gone
+
 -- an edit of a command states no figure of its own; a question refuses by no outer code, and its answer does not refuse
-abbrev IsPlain : Way → Type 0
+abbrev pub IsPlain : Way → Type 0
 IsPlain (Edits edit) = EditFits edit
-IsPlain (Asks causes answer) =
-    (scene : Scene) → (list_all (λ (c : Bool × Code). not (is_outer c.1)) (causes scene) ≡ true) × (is_no (answer scene) ≡ false)
+IsPlain (Asks causes answer) = (scene : Scene) → IsMildly (causes scene) (answer scene)
+IsPlain (Hands causes answer left) = IsHanding causes answer left
 IsPlain _ = Unit {0}
 
-plain_way : (c : Command) → IsPlain (way_of c)
+-- a reading does not refuse
+read_is_no : (n : Option ℕ) → is_no (read_off n) ≡ false
+read_is_no None = refl
+read_is_no (Some n) = refl
+
+attach_handing : (k : ℤ) (name : List ℕ)
+    → IsHanding (λ scene. attach_causes scene k name) (λ scene. read_off (reading (attached scene k name) k)) (λ scene. attached scene k name)
+attach_handing k name = record {
+  mildly = λ scene. (refl, read_is_no (reading (attached scene k name) k));
+  well = λ scene well r. well_attached scene k name well (handover scene k name r).standing;
+  fixed = λ scene. length-set scene.slots (nat_abs k) (handed name (slot_at scene k));
+  gone = λ scene i h. gone_attached scene k name i h;
+}
+
+detach_handing : (k : ℤ) → IsHanding (λ scene. reading_causes scene k) (λ scene. Done) (λ scene. detached scene k)
+detach_handing k = record {
+  mildly = λ scene. (refl, refl);
+  well = λ scene well r. well_detached scene k well;
+  fixed = λ scene. length-set scene.slots (nat_abs k) Gone;
+  gone = λ scene i h. gone_detached scene k i h;
+}
+
+pub plain_way : (c : Command) → IsPlain (way_of c)
 plain_way (commands.Input name dim) = tt
 plain_way (commands.Toggle name nums) = tt
 plain_way (commands.Add name nums) = tt
@@ -87,10 +123,13 @@ plain_way (commands.Def name formula) = tt
 plain_way (commands.Drop name) = tt
 plain_way (commands.Load name form file) = tt
 plain_way (commands.Save name form file) = tt
+plain_way (commands.Meter slot name) = attach_handing slot name
+plain_way (commands.Read slot) = λ scene. (refl, read_is_no (reading scene slot))
+plain_way (commands.Unmeter slot) = detach_handing slot
 plain_way _ = λ scene. (refl, refl)
 
 plain_edit : (scene : Scene) (edit : Edit)
-    → (list_all (λ (c : Bool × Code). not (is_outer c.1)) (edit_causes scene edit) ≡ true) × (is_no (edit_reply scene edit) ≡ false)
+    → IsMildly (edit_causes scene edit) (edit_reply scene edit)
 plain_edit scene (Input name dim) = (refl, refl)
 plain_edit scene _ = (refl, refl)
 
@@ -117,6 +156,8 @@ quiet_way fetched scene (Edits edit) p =
 quiet_way fetched scene (Asks causes answer) p = quiet fetched scene (Asks causes answer) (mild_unless is_outer scene _ (causes scene) (p scene).0 (p scene).1)
 quiet_way fetched scene (Loads name form file) p = quiet_load fetched scene name file form
 quiet_way fetched scene (Saves name form file) p = quiet fetched scene (Saves name form file) (mild_unless is_outer scene _ (save_causes scene name form) refl refl)
+quiet_way fetched scene (Hands causes answer left) p =
+    quiet fetched scene (Hands causes answer left) (mild_unless is_outer scene _ (causes scene) (p.mildly scene).0 (p.mildly scene).1)
 
 quiet_fault : (scene : Scene) (e : LineError) → IsMild is_outer scene (stays scene (fault_reply e))
 quiet_fault scene faults.Long = (λ h. (refl, refl), refl)
@@ -188,6 +229,7 @@ unsaved_way fetched scene (Edits edit) h = unplaced scene (refusal scene edit) _
 unsaved_way fetched scene (Asks causes answer) h = unplaced scene (first_cause (causes scene)) _ refl
 unsaved_way fetched scene (Loads name form file) h = unplaced scene (first_cause (load_causes scene name form ++ file_causes fetched scene name form file)) _ refl
 unsaved_way fetched scene (Saves name form file) h = absurd (false≢true (sym h))
+unsaved_way fetched scene (Hands causes answer left) h = unplaced scene (first_cause (causes scene)) _ refl
 
 pub unsaved_turn : (fetched : Fetches) (scene : Scene) (c : Command) → is_save c ≡ false → (turn_of fetched scene c).placed ≡ None
 unsaved_turn fetched scene c h = unsaved_way fetched scene (way_of c) h
@@ -233,9 +275,22 @@ pub asked_shelf : (fetched : Fetches) (scene : Scene) (line : List ℕ)
 unfolding step fetches asks
 asked_shelf fetched scene line = asked_line fetched scene (command line)
 
--- the scene before the first line is well: nothing stands in it
-pub well_start : IsWell start
-well_start = record { names = refl; dims = refl; sound = refl; stay = refl; stand = λ x o m. among_none o m; acyclic = λ x. refl }
+-- free meters watch no name
+free_watch_none : (kinds : List Measure) (name : List ℕ) → list_any (slot_watches name) (map Free kinds) ≡ false
+free_watch_none [] name = refl
+free_watch_none (kind ∷ kinds) name = free_watch_none kinds name
+
+-- the scene before the first line is well: nothing stands in it, and nothing is watched
+pub well_start : (kinds : List Measure) → IsWell (start_with kinds)
+well_start kinds = record {
+  names = refl;
+  dims = refl;
+  sound = refl;
+  stay = refl;
+  stand = λ x o m. among_none o m;
+  acyclic = λ x. refl;
+  watched = λ x h. not_both (list_any (slot_watches x) (map Free kinds)) h (free_watch_none kinds x);
+}
 
 well_edited : (scene : Scene) (edit : Edit) (reply : Reply) → IsWell scene → EditFits edit → IsWell (edited scene edit reply).scene
 well_edited scene edit reply well fits = by_cause (refusal scene edit) refl
@@ -253,6 +308,11 @@ well_way fetched scene (Edits edit) p well = well_edited scene edit _ well p
 well_way fetched scene (Loads name form file) p well = well_load fetched scene name file form well
 well_way fetched scene (Asks causes answer) p well = well_left scene _ well (question_way fetched scene (Asks causes answer) refl)
 well_way fetched scene (Saves name form file) p well = well_left scene _ well (question_way fetched scene (Saves name form file) refl)
+well_way fetched scene (Hands causes answer left) p well = by_cause (first_cause (causes scene)) refl
+  where
+    by_cause : (o : Option Code) → first_cause (causes scene) ≡ o → IsWell (unless_refused o scene (record { reply = answer scene; scene = left scene; placed = None })).scene
+    by_cause None e = p.well scene well e
+    by_cause (Some code) e = well
 
 well_line : (fetched : Fetches) (scene : Scene) (r : Result Command LineError) → IsWell scene → IsWell (line_turn fetched scene r).scene
 well_line fetched scene (Ok c) well = well_way fetched scene (way_of c) (plain_way c) well

@@ -9,7 +9,7 @@ use Rattle.evm_cells.proofs.Xor.{and-true}
 use Rattle.evm_script.specs.declared.formula.Formula.{Formula}
 use Rattle.evm_model.specs.Figures.{Figure}
 use Rattle.evm_model.specs.Orders.{is_among}
-use Rattle.evm_model.specs.Scene.{What, Made, Entry, Scene, has_name, entry_of, stands, dim_of, dim_of_entry, operands, what_operands, entry_operands, operands_of, reaches, is_read, with_entry, with_figure, with_new, without_name, formula_dim, is_dim, names_differ, what_is_sound, value, what_stays, all_stay, IsWell, reaches_within, given_entry, made_entry}
+use Rattle.evm_model.specs.Scene.{What, Made, Entry, Scene, has_name, entry_of, stands, dim_of, dim_of_entry, operands, what_operands, entry_operands, operands_of, reaches, is_read, is_watched, with_entry, with_figure, with_new, without_name, formula_dim, is_dim, names_differ, what_is_sound, value, what_stays, all_stay, IsWell, reaches_within, given_entry, made_entry}
 use Rattle.evm_model.proofs.Names.{by_name, by_test, not_both, name_itself, different_names, or_left, or_none, or_second, neither, among_none, by_or, any_less, or_map, same_name, none_passes}
 use Rattle.evm_model.proofs.Lookups.{with_other, with_own, with_none, differ_with, without_other, without_own, differ_without, push_other, push_own, differ_push, same_entry, no_some}
 use Rattle.evm_model.proofs.Levels.{what_stays_same}
@@ -22,7 +22,9 @@ module _ (s u : Scene) (well : IsWell s) (name : List ℕ)
     (differ : names_differ u.entries ≡ true)
     (dims : (x : List ℕ) → is_among name (operands_of s.entries x) ≡ true → (stands u name ≡ true) × (dim_of u name ≡ dim_of s name))
     (own : (e : Entry) → entry_of u.entries name ≡ Some e → (is_dim (pos e.dim) ≡ true) × (what_is_sound u e.dim e.what ≡ true))
-    (reads : (o : List ℕ) → is_among o (operands_of u.entries name) ≡ true → (is_before s name o ≡ true) × (stands s o ≡ true)) where
+    (reads : (o : List ℕ) → is_among o (operands_of u.entries name) ≡ true → (is_before s name o ≡ true) × (stands s o ≡ true))
+    (slots : (x : List ℕ) → is_watched u x ≡ is_watched s x)
+    (kept : is_watched s name ≡ true → stands u name ≡ true) where
   still : (x o : List ℕ) → is_among o (operands_of s.entries x) ≡ true → dim_of s o ≡ dim_of u o
   still x o m =
       by_name o name
@@ -110,6 +112,13 @@ module _ (s u : Scene) (well : IsWell s) (name : List ℕ)
       (λ d. refuted (reaches u x x) (λ h. false≢true (sym (well.acyclic x) ∙ by_test (is_before s name x)
       (λ b. early_reaches (length u.entries) x x b h) (λ b. late_reaches x b (length u.entries) x d h))))
 
+  -- watched names stand
+  watched_after : (x : List ℕ) → is_watched u x ≡ true → stands u x ≡ true
+  watched_after x h =
+      by_name x name
+      (λ e. subst (λ (z : List ℕ). stands u z ≡ true) (sym e) (kept (subst (λ (z : List ℕ). is_watched s z ≡ true) e (sym (slots x) ∙ h))))
+      (λ d. stands_still x d (well.watched x (sym (slots x) ∙ h)))
+
   pub well_after : all_stay u ≡ true → IsWell u
   well_after stay = record {
     names = differ;
@@ -118,6 +127,7 @@ module _ (s u : Scene) (well : IsWell s) (name : List ℕ)
     stay = stay;
     stand = stand_after;
     acyclic = acyclic_after;
+    watched = watched_after;
   }
 
 -- the dimension of a name that stands
@@ -137,8 +147,9 @@ well_figure s name new well dim cells stay =
     (λ x m. (ap (λ (t : Option Entry). is_some t) here, ap (λ (t : Option Entry). dim_of_entry t) here ∙ sym dim))
     (λ e q. subst (λ (t : Entry). (is_dim (pos t.dim) ≡ true) × (what_is_sound u t.dim t.what ≡ true)) (same_entry entry e (sym here ∙ q))
     (subst (λ (n : ℕ). is_dim (pos n) ≡ true) dim (standing_dim s well name h), sound_cells new.dim new.cells cells))
-    (λ o m. among_none o (subst (λ (t : Option Entry). is_among o (entry_operands t) ≡ true) here m)) stay)
-    (λ out. subst IsWell (λ i. record { entries = sym (with_none s.entries name entry out) i }) well)
+    (λ o m. among_none o (subst (λ (t : Option Entry). is_among o (entry_operands t) ≡ true) here m))
+    (λ x. refl) (λ w. ap (λ (t : Option Entry). is_some t) here) stay)
+    (λ out. subst IsWell (λ i. record s { entries = sym (with_none s.entries name entry out) i }) well)
   where
     entry : Entry
     entry = given_entry name new
@@ -187,6 +198,7 @@ well_new s name dim what well out d sound stand stay =
     (d, sym (what_sound_same s u dim what (λ o m. ap (λ (t : Option Entry). dim_of_entry t) (sym (push_other s.entries entry o (apart_new s name out o (stand o m)))))) ∙ sound))
     (λ o m. let there = stand o (subst (λ (t : Option Entry). is_among o (entry_operands t) ≡ true) here m) in
     (before_both s name o (apart_new s name out o there) (never_reached s name well out o), there))
+    (λ x. refl) (λ w. ap (λ (t : Option Entry). is_some t) here)
     (stay_new s name dim what well out stand ∙ stay)
   where
     entry : Entry
@@ -201,8 +213,8 @@ well_new s name dim what well out d sound stand stay =
 -- another formula under a name that stands, which none of its operands is or reaches
 pub well_formula : (s : Scene) (name : List ℕ) (f : Formula) → IsWell s → stands s name ≡ true → formula_dim s f ≡ dim_of s name → what_is_sound s (formula_dim s f) (Made f) ≡ true
     → ((o : List ℕ) → is_among o (operands f) ≡ true → stands s o ≡ true) → ((o : List ℕ) → is_among o (operands f) ≡ true → is_before s name o ≡ true)
-    → all_stay (record { entries = with_entry s.entries name (made_entry s name f) }) ≡ true
-    → IsWell (record { entries = with_entry s.entries name (made_entry s name f) })
+    → all_stay (record s { entries = with_entry s.entries name (made_entry s name f) }) ≡ true
+    → IsWell (record s { entries = with_entry s.entries name (made_entry s name f) })
 well_formula s name f well h dim sound stand free stay =
     well_after s u well name other (differ_with s.entries name entry refl well.names)
     (λ x m. (ap (λ (t : Option Entry). is_some t) here, ap (λ (t : Option Entry). dim_of_entry t) here ∙ dim))
@@ -210,13 +222,14 @@ well_formula s name f well h dim sound stand free stay =
       subst (λ (n : ℕ). is_dim (pos n) ≡ true) (sym dim) (standing_dim s well name h),
       sym (what_sound_same s u (formula_dim s f) (Made f) (λ o m. ap (λ (t : Option Entry). dim_of_entry t) (sym (other o (before_parts s name o (free o m)).0)))) ∙ sound,
     ))
-    (λ o m. let k = subst (λ (t : Option Entry). is_among o (entry_operands t) ≡ true) here m in (free o k, stand o k)) stay
+    (λ o m. let k = subst (λ (t : Option Entry). is_among o (entry_operands t) ≡ true) here m in (free o k, stand o k))
+    (λ x. refl) (λ w. ap (λ (t : Option Entry). is_some t) here) stay
   where
     entry : Entry
     entry = made_entry s name f
 
     u : Scene
-    u = record { entries = with_entry s.entries name entry }
+    u = record s { entries = with_entry s.entries name entry }
 
     here : entry_of u.entries name ≡ Some entry
     here = with_own s.entries name entry refl h
@@ -241,13 +254,14 @@ unread s name h x = by (entry_of s.entries x) refl
     by None q = refl
     by (Some e) q = found_fails (λ (y : Entry). is_among name (what_operands y.what)) s.entries x e q h
 
--- a name that is not read, taken out: the names that are left read what they read, whose values stay
-pub well_without : (s : Scene) (name : List ℕ) → IsWell s → stands s name ≡ true → is_read s name ≡ false → IsWell (without_name s name)
-well_without s name well h free =
+-- a name that is neither read nor watched, taken out: the names that are left read what they read, whose values stay
+pub well_without : (s : Scene) (name : List ℕ) → IsWell s → stands s name ≡ true → is_read s name ≡ false → is_watched s name ≡ false → IsWell (without_name s name)
+well_without s name well h free alone =
     well_after s u well name (λ x d. without_other s.entries name x d) differ
     (λ x m. not_both (is_among name (operands_of s.entries x)) m (unread s name free x))
     (λ e q. no_some e (sym gone ∙ q))
     (λ o m. among_none o (subst (λ (t : Option Entry). is_among o (entry_operands t) ≡ true) gone m))
+    (λ x. refl) (λ w. not_both (is_watched s name) w alone)
     (all_stay_at s well name u (at_drop s name) differ
     (λ x e t q. by_name x name
     (λ k. no_some e (sym (ap (λ (z : List ℕ). entry_of u.entries z) k ∙ gone) ∙ q))

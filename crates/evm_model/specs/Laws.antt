@@ -20,7 +20,7 @@ use Rattle.evm_script.specs.declared.formula.Formula.TheVariants.{Shift, Lift}
 use Rattle.evm_model.specs.Figures.{Figure, nothing, box_at, xor_of, or_of, sub_of, same_figure}
 use Rattle.evm_model.specs.Files.{Fetches, form_fits, figure_in, figure_fetched, bytes_in}
 use Rattle.evm_model.specs.Orders.{is_among}
-use Rattle.evm_model.specs.Scene.{Scene, Entry, Made, Slot, Free, Watches, Gone, start_with, slot_at, reading, measure_of, attached, detached, entry_of, stands, dim_of, operands_of, formula_value, entry_value, value, reaches, is_read, all_stay, with_figure, is_dim, IsWell, IsOrderOf}
+use Rattle.evm_model.specs.Scene.{Scene, Entry, Made, Free, Watches, Gone, start_with, slot_at, reading, measure_of, attached, detached, entry_of, stands, dim_of, operands_of, formula_value, entry_value, value, reaches, is_read, all_stay, with_figure, is_dim, IsWell, IsOrderOf}
 use Rattle.evm_model.specs.Edits.{Edit, Input, Toggle, Add, Cut, Replace, Def, Drop, Missing, Shelf, Form, Memory, EditFits, name_of, refusal, after, changed, changed_names}
 use Rattle.evm_model.specs.Replies.{Reply, No, reply_text, line_of, is_no}
 use Rattle.evm_model.specs.Steps.{Way, Edits, Loads, Saves, Hands, way_of, step, fetches, asks, of_line}
