@@ -8,8 +8,8 @@ use Rattle.evm_script.specs.Printed.{formula_words}
 use Rattle.evm_model.specs.Scene.{Entry, What, Given, Made}
 use Rattle.evm_model.specs.Edits.{Code, Line, Syntax, Name, Meter, Taken, Kind, Used, Cycle, Dim, Range, Missing, Shelf, Form, Memory}
 
--- nothing, a refusal, that it is done, how many names changed, a figure, a measure, whether a cell is filled, the place of a point, the faces at the
--- cuts of an axis, the parts of a figure, a report, or the names
+-- nothing, a refusal, that it is done, how many names changed, a figure, a measure or a reading, whether a cell is filled, the
+-- place of a point, the faces at the cuts of an axis, the parts of a figure, a report, or the names
 pub data Reply : Type 0 where
   Empty : Reply
   No : Code → Reply
