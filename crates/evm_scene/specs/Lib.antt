@@ -3,6 +3,7 @@ pub mod Orders
 pub mod Changes
 pub mod Applied
 pub mod Shown
+pub mod Watched
 pub mod Combined
 pub mod Definitions
 pub mod InputEdits

@@ -135,7 +135,7 @@ abbrev pub put_made : Table → List ℕ → Formula → Vertices → Table
 put_made [] x f s = []
 put_made (e ∷ es) x f s = if bytes_eq x e.0 then (e.0, with_made e.1 f s) ∷ es else e ∷ put_made es x f s
 
--- the scene that a table shows: of an input its cells, of a formula the formula
+-- the scene that a table shows, without slots: of an input its cells, of a formula the formula
 abbrev pub what_of : Vertices → Option Formula → What
 what_of own None = Given (cells own.dim own.rows)
 what_of own (Some f) = Made f
@@ -147,7 +147,7 @@ abbrev pub entries_of : Table → List Entry
 entries_of t = map entry_view t
 
 abbrev pub scene_of : Table → Scene
-scene_of t = record { entries = entries_of t }
+scene_of t = record { entries = entries_of t; slots = [] }
 
 -- what each name of a table keeps: its node is sound, its solid is that of its formula, and its formula moves no cell out of the limits
 abbrev pub AllSized : Table → Type 0

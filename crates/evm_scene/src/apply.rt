@@ -11,15 +11,16 @@ use super::edit::{Changed, Edit, Refusal};
 use super::removed::remove;
 use super::replaced::replace;
 use super::scene::Scene;
+use evm_meter::Meter;
 use evm_script::{Name, Nums};
 use std::alloc::Global;
 
-impl Scene {
+impl<M: Meter> Scene<M> {
     /// Makes an edit, and answers how many names stood before and after and changed their cells.
     ///
-    /// A refused edit leaves the scene as it is; the refusal is the first cause that holds, in the order of `Refusal`, or
+    /// A refused edit leaves the scene and all readings as they are; the refusal is the first cause that holds, in the order of `Refusal`, or
     /// `NoMemory`, which may come at any edit. Takes memory for the change of each name that changes, and for what of its tree the
-    /// change meets. Another solid of an input or formula, and a new formula, take the rows of the solid before, of the operands and
+    /// change meets, and of each watched name that changes for what is near its change. Another solid of an input or formula, and a new formula, take the rows of the solid before, of the operands and
     /// of the solid after as well.
     pub fn apply(&mut self, alloc: Global, edit: Edit) -> Result<Changed, Refusal>
         ensures { Applies result self.old self.new (edit_view edit) }
@@ -31,12 +32,26 @@ impl Scene {
             Edit::Add { name, nums } => self.put_box(alloc, BoxEdit::Add, &name, &nums),
             Edit::Cut { name, nums } => self.put_box(alloc, BoxEdit::Cut, &name, &nums),
             Edit::Replace { name, solid } => {
-                replace(alloc, &mut self.table, self.order.as_slice(), &name, solid)
+                replace(
+                    alloc,
+                    &mut self.table,
+                    &mut self.slots,
+                    self.order.as_slice(),
+                    &name,
+                    solid,
+                )
             }
             Edit::Def { name, formula } => {
-                define(alloc, &mut self.table, &mut self.order, name, formula)
+                define(
+                    alloc,
+                    &mut self.table,
+                    &mut self.slots,
+                    &mut self.order,
+                    name,
+                    formula,
+                )
             }
-            Edit::Drop { name } => remove(&mut self.table, &mut self.order, &name),
+            Edit::Drop { name } => remove(&mut self.table, &self.slots, &mut self.order, &name),
         }
     }
 
@@ -53,6 +68,7 @@ impl Scene {
         edit_by_box(
             alloc,
             &mut self.table,
+            &mut self.slots,
             self.order.as_slice(),
             edit,
             name,

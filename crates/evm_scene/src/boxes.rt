@@ -4,6 +4,7 @@ ghost use Rattle.std.specs.Prelude.{◌≡◌, ◌*◌, ℕ, List, length, true,
 ghost use Rattle.evm_model.specs.Figures.{box_fits, low_of, high_of, box_at, clip_of, xor_of};
 ghost use Rattle.evm_model.specs.Scene.{value};
 ghost use Rattle.evm_scene.specs.Tables.{figure_of, kept, scene_of, AllSized};
+ghost use Rattle.evm_scene.specs.Watched.{IsWatched, StaysWatched};
 ghost use Rattle.evm_scene.specs.Orders.{IsKept};
 ghost use Rattle.evm_scene.specs.Changes.{IsChange};
 ghost use Rattle.evm_scene.specs.Applied.{Applies};
@@ -14,9 +15,11 @@ use super::inputs::set_input;
 use super::node::{Change, Node};
 use super::numbers::box_of;
 use super::solids::{changed, exclusive_or};
+use evm_meter::Meter;
 use evm_rows::{NoMemory, Solid, limit};
 use evm_script::{Name, Nums};
 use evm_tiles::Tiles;
+use evm_watch::Slots;
 use indexmap::IndexMap;
 use std::alloc::Global;
 
@@ -143,24 +146,27 @@ fn planned(
 /// Refused in this order: `Name` where the name does not stand, `Kind` where it is a formula, `Dim` where the numbers are not
 /// twice as many as its dimension, `Range` where one is past the limits, the box has no room on some axis, or a formula would
 /// move some cell out of the limits.
-pub fn edit_by_box(
+pub fn edit_by_box<M: Meter>(
     alloc: Global,
     table: &mut IndexMap<Name, Node>,
+    slots: &mut Slots<M>,
     order: &[Name],
     edit: BoxEdit,
     name: &Name,
     nums: &Nums,
 ) -> Result<Changed, Refusal>
     requires { IsKept table.old.entries order.now }
+    requires watched { IsWatched table.old.entries slots.old }
     ensures kept { IsKept table.new.entries order.now }
     ensures applies { Applies result (scene_of table.old.entries) (scene_of table.new.entries)
         (edit_by edit name.now nums.now) }
+    ensures watched { StaysWatched table.new.entries slots.old slots.new }
 {
     let change = match planned(alloc, table, edit, name, nums) {
         Ok(change) => change,
         Err(cause) => return Err(cause),
     };
-    match set_input(alloc, table, order, name, change) {
+    match set_input(alloc, table, slots, order, name, change) {
         Ok(names) => Ok(Changed { names }),
         Err(e) => Err(Refusal::from(e)),
     }

@@ -6,6 +6,7 @@ ghost use Rattle.evm_model.specs.Scene.{operands, dim_of, formula_fits, formula_
 ghost use Rattle.evm_model.specs.Edits as model;
 ghost use Rattle.evm_model.specs.Edits.{lacks_operand, misses_dim};
 ghost use Rattle.evm_scene.specs.Tables.{figure_of, node_at, reads_at, kept, is_made, put_made, scene_of, AllSized, AllFixed, AllStay};
+ghost use Rattle.evm_scene.specs.Watched.{IsWatched, StaysWatched};
 ghost use Rattle.evm_scene.specs.Orders.{IsKept, Parted};
 ghost use Rattle.evm_scene.specs.Changes.{change_at, IsChange, IsCarried, IsHalted, IsRedefined, IsStuck, IsInstalled};
 ghost use Rattle.evm_scene.specs.Definitions.{IsFree};
@@ -21,10 +22,13 @@ use super::node::{Change, Node, changed_to};
 use super::removed::names;
 use super::reorder::{join, part, reads_reach};
 use super::solids::tree_of;
+use super::watched::prepare;
 use evm_delta::DeltaError;
+use evm_meter::Meter;
 use evm_rows::{NoMemory, Solid};
 use evm_script::{Formula, Name};
 use evm_tiles::Tiles;
+use evm_watch::Slots;
 use indexmap::{IndexMap, IndexSet};
 use std::alloc::Global;
 
@@ -252,9 +256,10 @@ fn fitting(table: &IndexMap<Name, Node>, name: &Name, formula: &Formula) -> Opti
 }
 
 /// Another formula under a name that stands for one. All changes are made before the first is put in place.
-fn redefine(
+fn redefine<M: Meter>(
     alloc: Global,
     table: &mut IndexMap<Name, Node>,
+    slots: &mut Slots<M>,
     order: &mut Vec<Name>,
     name: &Name,
     formula: Formula,
@@ -262,9 +267,11 @@ fn redefine(
     requires kept { IsKept table.old.entries order.old.items }
     requires made { is_made (node_at table.old.entries name.now) ≡ true }
     requires present { lacks_operand (scene_of table.old.entries) name.now formula ≡ false }
+    requires watched { IsWatched table.old.entries slots.old }
     ensures kept { IsKept table.new.entries order.new.items }
     ensures applies { Applies result (scene_of table.old.entries) (scene_of table.new.entries)
         (model.Def name.now formula) }
+    ensures watched { StaysWatched table.new.entries slots.old slots.new }
 {
     let _names = table.len();
     let parts = match free_parts(alloc, table, order.as_slice(), name, &formula) {
@@ -285,7 +292,11 @@ fn redefine(
     let Ok(whole) = joined(parts) else {
         return Err(Refusal::NoMemory);
     };
+    if prepare(alloc, table, slots, &pending).is_err() {
+        return Err(Refusal::NoMemory);
+    }
     let names = install(table, pending, name, formula);
+    slots.commit();
     *order = whole;
     Ok(Changed { names })
 }
@@ -301,18 +312,21 @@ fn kind_of(table: &IndexMap<Name, Node>, name: &Name) -> Option<bool>
 }
 
 /// A name stands for a formula: a new name, or one that stood for another formula.
-pub fn define(
+pub fn define<M: Meter>(
     alloc: Global,
     table: &mut IndexMap<Name, Node>,
+    slots: &mut Slots<M>,
     order: &mut Vec<Name>,
     name: Name,
     formula: Formula,
 ) -> Result<Changed, Refusal>
     requires kept { IsKept table.old.entries order.old.items }
     requires well { IsWell (scene_of table.old.entries) }
+    requires watched { IsWatched table.old.entries slots.old }
     ensures kept { IsKept table.new.entries order.new.items }
     ensures applies { Applies result (scene_of table.old.entries) (scene_of table.new.entries)
         (model.Def name formula) }
+    ensures watched { StaysWatched table.new.entries slots.old slots.new }
 {
     if lacks(table, &name, &formula) {
         return Err(Refusal::Name);
@@ -320,6 +334,6 @@ pub fn define(
     match kind_of(table, &name) {
         None => make(alloc, table, order, name, formula),
         Some(false) => Err(Refusal::Kind),
-        Some(true) => redefine(alloc, table, order, &name, formula),
+        Some(true) => redefine(alloc, table, slots, order, &name, formula),
     }
 }

@@ -58,7 +58,7 @@ pub enum Refusal {
     Taken,
     /// A box edit of a formula or another solid for one, or a definition of an input.
     Kind,
-    /// A name that is to be taken out is an operand of a formula.
+    /// A name that is to be taken out is an operand of a formula, or watched by a meter.
     Used,
     /// A formula would reach its own name through its operands.
     Cycle,
@@ -88,6 +88,17 @@ impl From<DeltaError> for Refusal {
             DeltaError::NoMemory => Refusal::NoMemory,
         }
     }
+}
+
+/// Why no meter watches a name. Where both hold it is `Name`.
+#[derive(Clone, Copy, Debug, PartialEq, Eq, Drop)]
+pub enum AttachError {
+    /// The name does not stand.
+    Name,
+    /// There is no such slot, or its meter watches a name already, or was given up.
+    Slot,
+    /// There was no memory.
+    NoMemory,
 }
 
 /// What an accepted edit did.

@@ -5,14 +5,18 @@ ghost use Rattle.evm_model.specs.Orders.{is_among};
 ghost use Rattle.evm_model.specs.Scene.{with_figure, all_stay};
 ghost use Rattle.evm_model.specs.Edits.{changed_names};
 ghost use Rattle.evm_scene.specs.Tables.{node_at, kept, is_made, figure_of, scene_of};
+ghost use Rattle.evm_scene.specs.Watched.{IsWatched, StaysWatched};
 ghost use Rattle.evm_scene.specs.Orders.{IsKept};
 ghost use Rattle.evm_scene.specs.Changes.{IsChange, IsCarried, IsHalted};
 
 use super::carry::{carry, put};
 use super::commit::{commit, set_solid, take_own};
 use super::node::{Change, Node};
+use super::watched::prepare;
 use evm_delta::DeltaError;
+use evm_meter::Meter;
 use evm_script::Name;
+use evm_watch::Slots;
 use indexmap::IndexMap;
 use std::alloc::Global;
 
@@ -70,9 +74,10 @@ pub fn changes(
 ///
 /// All changes are made before the first is put in place, so a failure leaves the table as it is. It is `Range` only where
 /// some formula of the scene with the other solid would move a cell out of the limits.
-pub fn set_input(
+pub fn set_input<M: Meter>(
     alloc: Global,
     table: &mut IndexMap<Name, Node>,
+    slots: &mut Slots<M>,
     order: &[Name],
     name: &Name,
     change: Change,
@@ -81,6 +86,7 @@ pub fn set_input(
     requires stands { is_some (node_at table.old.entries name.now) ≡ true }
     requires input { is_made (node_at table.old.entries name.now) ≡ false }
     requires change { IsChange (Some change) (kept table.old.entries name.now) }
+    requires watched { IsWatched table.old.entries slots.old }
     ensures kept { IsKept table.new.entries order.now }
     ensures ok { OnOk result
         (scene_of table.new.entries
@@ -94,13 +100,16 @@ pub fn set_input(
         → all_stay (with_figure (scene_of table.old.entries) name.now (figure_of change.after))
         ≡ false }
     ensures err { OnErr result (table.new.entries ≡ table.old.entries) }
+    ensures watched { StaysWatched table.new.entries slots.old slots.new }
 {
     let _names = table.len();
     let mut pending = changes(alloc, table, order, name, change)?;
+    prepare(alloc, table, slots, &pending)?;
     let own = take_own(&mut pending, name);
     let names = own.names;
     let last = own.change;
     commit(table, pending);
     set_solid(table, name, last.after);
+    slots.commit();
     Ok(names)
 }

@@ -7,12 +7,15 @@ ghost use Rattle.evm_model.specs.Scene.{operands, IsWell};
 ghost use Rattle.evm_model.specs.Edits as model;
 ghost use Rattle.evm_scene.specs.Tables.{reads_at, scene_of};
 ghost use Rattle.evm_scene.specs.Orders.{IsKept, is_other};
+ghost use Rattle.evm_scene.specs.Watched.{IsWatched, watched_scene};
 ghost use Rattle.evm_scene.specs.Applied.{Applies};
 
 use super::edit::{Changed, Refusal};
 use super::node::Node;
 use super::operations::{Operands, operands_of};
+use evm_meter::Meter;
 use evm_script::{Formula, Name};
+use evm_watch::Slots;
 use indexmap::IndexMap;
 
 /// Whether a formula reads a name.
@@ -56,22 +59,25 @@ fn take_out(order: &mut Vec<Name>, name: &Name)
     order.retain(|x| x != name);
 }
 
-/// Takes out a name that no formula reads.
-pub fn remove(
+/// Takes out a name that no formula reads and no meter watches.
+pub fn remove<M: Meter>(
     table: &mut IndexMap<Name, Node>,
+    slots: &Slots<M>,
     order: &mut Vec<Name>,
     name: &Name,
 ) -> Result<Changed, Refusal>
     requires kept { IsKept table.old.entries order.old.items }
-    requires well { IsWell (scene_of table.old.entries) }
+    requires watched { IsWatched table.old.entries slots.now }
+    requires well { IsWell (watched_scene table.old.entries slots.now) }
     ensures kept { IsKept table.new.entries order.new.items }
-    ensures applies { Applies result (scene_of table.old.entries) (scene_of table.new.entries)
-        (model.Drop name.now) }
+    ensures watched { IsWatched table.new.entries slots.now }
+    ensures applies { Applies result (watched_scene table.old.entries slots.now)
+        (watched_scene table.new.entries slots.now) (model.Drop name.now) }
 {
     if !table.contains_key(name) {
         return Err(Refusal::Name);
     }
-    if is_used(table, order.as_slice(), name) {
+    if is_used(table, order.as_slice(), name) || slots.watches(name) {
         return Err(Refusal::Used);
     }
     table.shift_remove(name);

@@ -4,6 +4,7 @@ ghost use Rattle.std.specs.Prelude.{◌≡◌, MatchResult};
 ghost use Rattle.evm_model.specs.Scene.{value};
 ghost use Rattle.evm_model.specs.Edits as model;
 ghost use Rattle.evm_scene.specs.Tables.{figure_of, kept, scene_of, AllSized};
+ghost use Rattle.evm_scene.specs.Watched.{IsWatched, StaysWatched};
 ghost use Rattle.evm_scene.specs.Orders.{IsKept};
 ghost use Rattle.evm_scene.specs.Applied.{Applies};
 ghost use Rattle.evm_scene.specs.InputEdits.{IsRefused, IsPlanned};
@@ -11,8 +12,10 @@ ghost use Rattle.evm_scene.specs.InputEdits.{IsRefused, IsPlanned};
 use super::edit::{Changed, Refusal};
 use super::inputs::set_input;
 use super::node::{Change, Node, changed_to};
+use evm_meter::Meter;
 use evm_rows::Solid;
 use evm_script::Name;
+use evm_watch::Slots;
 use indexmap::IndexMap;
 use std::alloc::Global;
 
@@ -47,23 +50,26 @@ fn planned(
 ///
 /// Refused in this order: `Name` where the name does not stand, `Kind` where it is a formula, `Dim` where the solid is of
 /// another dimension, `Range` where a formula would move some cell out of the limits. The solid is dropped then.
-pub fn replace(
+pub fn replace<M: Meter>(
     alloc: Global,
     table: &mut IndexMap<Name, Node>,
+    slots: &mut Slots<M>,
     order: &[Name],
     name: &Name,
     solid: Solid,
 ) -> Result<Changed, Refusal>
     requires { IsKept table.old.entries order.now }
+    requires watched { IsWatched table.old.entries slots.old }
     ensures kept { IsKept table.new.entries order.now }
     ensures applies { Applies result (scene_of table.old.entries) (scene_of table.new.entries)
         (model.Replace name.now (figure_of solid)) }
+    ensures watched { StaysWatched table.new.entries slots.old slots.new }
 {
     let change = match planned(alloc, table, name, solid) {
         Ok(change) => change,
         Err(cause) => return Err(cause),
     };
-    match set_input(alloc, table, order, name, change) {
+    match set_input(alloc, table, slots, order, name, change) {
         Ok(names) => Ok(Changed { names }),
         Err(e) => Err(Refusal::from(e)),
     }

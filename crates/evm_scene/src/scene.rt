@@ -1,49 +1,58 @@
 //! The type of scenes, and what can be asked of one.
 
-ghost use Rattle.std.specs.Prelude.{◌≡◌, ◌<◌, true, false, length, slice_get, option_map, Some, MatchOption, IfOk, IfErr, IfSome};
+ghost use Rattle.std.specs.Prelude.{◌≡◌, ◌<◌, ℕ, true, false, length, map, None, slice_get, option_map, Some, MatchOption, IfOk, IfErr, IfSome};
 ghost use Rattle.evm_cells.specs.Vertices.{evm, cells};
 ghost use Rattle.evm_rows.specs.Rows.{IsSolid};
-ghost use Rattle.evm_model.specs.Scene.{start, stands, dim_of, is_input, value, IsWell};
+ghost use Rattle.evm_model.specs.Scene.{start_with, stands, dim_of, is_input, value, IsWell};
 ghost use Rattle.evm_scene.specs.Tables.{figure_of};
 ghost use Rattle.evm_scene.specs.Shown.{formula_of, Refuses};
 
 use super::edit::{Entry, Refusal};
 use super::node::Node;
+use evm_meter::Meter;
 use evm_rows::{NoMemory, Solid};
 use evm_script::{Formula, Name};
 use evm_tiles::Tiles;
+use evm_watch::Slots;
 use indexmap::IndexMap;
 use std::alloc::Global;
 use std::marker::Model;
 
 /// Names in the order of their making, each an input or a formula over other names, and the solid of each, kept as a tree of tiles.
 #[derive(Drop)]
-pub struct Scene {
+pub struct Scene<M: Meter> {
     /// What each name stands for, in the order of their making.
     pub(crate) table: IndexMap<Name, Node>,
     /// The names in an order in which operands come first.
     pub(crate) order: Vec<Name>,
+    /// The meters that were handed in, with the names that they watch.
+    pub(crate) slots: Slots<M>,
 }
 
-impl Model for Scene {
+impl<M: Meter> Model for Scene<M> {
     ghost use Rattle.evm_model.specs.Scene as model;
-    ghost use Rattle.evm_scene.specs.Shown.{scene_shown, IsShown};
+    ghost use Rattle.evm_scene.specs.Orders.{IsKept};
+    ghost use Rattle.evm_scene.specs.Watched.{watched_scene, IsWatched};
 
     ghost Value = { model.Scene };
 
-    ghost view = { scene_shown };
+    ghost view = { λ a. watched_scene a.table.entries a.slots };
 
-    ghost invariant = { IsShown };
+    ghost invariant = { λ a. IsKept a.table.entries a.order.items × IsWatched a.table.entries a.slots };
 }
 
-impl Scene {
-    /// The scene without names. Takes no memory yet.
-    pub fn new(alloc: Global) -> Result<Scene, NoMemory>
-        ensures { IfOk result (λ s. s ≡ start) }
+impl<M: Meter> Scene<M> {
+    /// The scene without names, and a free slot for each of these meters, in their order. No meter may have a reading yet. Takes
+    /// memory for the list of slots; after want of memory the meters are dropped.
+    pub fn new(alloc: Global, meters: Vec<M>) -> Result<Scene<M>, NoMemory>
+        requires { (k : ℕ) (m : M) → slice_get meters.items k ≡ Some m
+            → (M.reading m ≡ None) × (M.pending m ≡ None) }
+        ensures { IfOk result (λ s. s ≡ start_with (map (λ m. M.kind m) meters.items)) }
     {
         Ok(Scene {
             table: IndexMap::new(alloc),
             order: Vec::new(alloc),
+            slots: Slots::new(alloc, meters)?,
         })
     }
 
