@@ -14,14 +14,17 @@ use Rattle.evm_formats.specs.declared.voxels.VoxelError.TheVariants as voxels
 use Rattle.evm_model.specs.Edits as codes
 use Rattle.evm_scene.specs.declared.edit.Refusal.{Refusal as SceneRefusal}
 use Rattle.evm_scene.specs.declared.edit.Refusal.TheVariants as edits
+use Rattle.evm_scene.specs.declared.edit.AttachError.{AttachError}
+use Rattle.evm_scene.specs.declared.edit.AttachError.TheVariants as attaching
 use Rattle.evm_session.specs.declared.refusals.Refusal.{Refusal}
-use Rattle.evm_session.specs.declared.refusals.Refusal.TheVariants.{Line, Syntax, Name, Taken, Kind, Used, Cycle, Dim, Range, Missing, Shelf, Form, NoMemory}
+use Rattle.evm_session.specs.declared.refusals.Refusal.TheVariants.{Line, Syntax, Name, Meter, Taken, Kind, Used, Cycle, Dim, Range, Missing, Shelf, Form, NoMemory}
 
 -- the code of a refusal
 abbrev pub code_of : Refusal → codes.Code
 code_of Line = codes.Line
 code_of Syntax = codes.Syntax
 code_of Name = codes.Name
+code_of Meter = codes.Meter
 code_of Taken = codes.Taken
 code_of Kind = codes.Kind
 code_of Used = codes.Used
@@ -49,6 +52,12 @@ of_scene_refusal edits.Cycle = Cycle
 of_scene_refusal edits.Dim = Dim
 of_scene_refusal edits.Range = Range
 of_scene_refusal edits.NoMemory = NoMemory
+
+-- where no meter watches a name
+abbrev pub of_attach_error : AttachError → Refusal
+of_attach_error attaching.Name = Name
+of_attach_error attaching.Slot = Meter
+of_attach_error attaching.NoMemory = NoMemory
 
 -- where no file was fetched
 abbrev pub of_fetch_error : FetchError → Refusal

@@ -14,6 +14,8 @@ use super::questions::{at, boundary, content, parts, point, show};
 use super::refusals::Refusal;
 use super::reports::report;
 use super::sections::{faces, project, section};
+use super::slots::{meter, read, unmeter};
+use evm_meter::Meter;
 use evm_outside::Shelf;
 use evm_rows::NoMemory;
 use evm_scene::{Edit, Scene};
@@ -21,8 +23,8 @@ use evm_script::{Command, read_line};
 use std::alloc::Global;
 
 /// Carries out a command that names no file.
-fn carry_out_alone(
-    scene: &mut Scene,
+fn carry_out_alone<M: Meter>(
+    scene: &mut Scene<M>,
     alloc: Global,
     command: &Command,
     out: &mut Vec<u8>,
@@ -50,13 +52,16 @@ fn carry_out_alone(
         Command::Faces { name, axis } => faces(scene, alloc, &name, &axis, out),
         Command::Parts { name } => parts(scene, alloc, &name, out),
         Command::Report { name } => report(scene, alloc, &name, out),
+        Command::Meter { slot, name } => meter(scene, alloc, slot, &name, out),
+        Command::Read { slot } => read(scene, slot, out),
+        Command::Unmeter { slot } => unmeter(scene, slot, out),
         Command::Load { .. } | Command::Save { .. } => unreachable!(),
     }
 }
 
 /// Carries out a command.
-fn carry_out<S: Shelf>(
-    scene: &mut Scene,
+fn carry_out<M: Meter, S: Shelf>(
+    scene: &mut Scene<M>,
     alloc: Global,
     command: &Command,
     shelf: &mut S,
@@ -75,8 +80,8 @@ fn carry_out<S: Shelf>(
 }
 
 /// Carries out the command of a line.
-fn carry_out_line<S: Shelf>(
-    scene: &mut Scene,
+fn carry_out_line<M: Meter, S: Shelf>(
+    scene: &mut Scene<M>,
     alloc: Global,
     line: &[u8],
     shelf: &mut S,
@@ -94,8 +99,8 @@ fn carry_out_line<S: Shelf>(
 }
 
 /// Appends the reply to a line, and answers whether the line was not refused.
-pub fn answer<S: Shelf>(
-    scene: &mut Scene,
+pub fn answer<M: Meter, S: Shelf>(
+    scene: &mut Scene<M>,
     alloc: Global,
     line: &[u8],
     shelf: &mut S,

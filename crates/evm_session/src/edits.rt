@@ -9,12 +9,18 @@ ghost use Rattle.evm_session.specs.Carried.{Carries};
 
 use super::refusals::Refusal;
 use super::replies::{put_number, reserve_number};
+use evm_meter::Meter;
 use evm_scene::{Edit, Scene};
 use std::alloc::Global;
 
 /// Carries out an edit of a solid, and tells how many names it changed. The room for the reply comes first, so that nothing
 /// fails behind an edit that was made.
-pub fn edit(scene: &mut Scene, alloc: Global, edit: Edit, out: &mut Vec<u8>) -> Result<(), Refusal>
+pub fn edit<M: Meter>(
+    scene: &mut Scene<M>,
+    alloc: Global,
+    edit: Edit,
+    out: &mut Vec<u8>,
+) -> Result<(), Refusal>
     ensures { Carries result scene.old scene.new out.old.items out.new.items
         (edited scene.old (edit_view edit) (Changed (changed scene.old (edit_view edit)))) }
 {
@@ -25,8 +31,8 @@ pub fn edit(scene: &mut Scene, alloc: Global, edit: Edit, out: &mut Vec<u8>) -> 
 }
 
 /// The same of an edit that makes an input or takes out a name: no other name changes, and so the reply says.
-pub fn edit_name(
-    scene: &mut Scene,
+pub fn edit_name<M: Meter>(
+    scene: &mut Scene<M>,
     alloc: Global,
     edit: Edit,
     out: &mut Vec<u8>,

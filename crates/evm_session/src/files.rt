@@ -14,6 +14,7 @@ use super::refusals::Refusal;
 use super::replies::{put_number, reserve_number};
 use evm_box_writer::write_boxes;
 use evm_mesh::{write_faces, write_obj};
+use evm_meter::Meter;
 use evm_outside::Shelf;
 use evm_rows::{NoMemory, Solid};
 use evm_scene::{Edit, Scene};
@@ -22,7 +23,7 @@ use std::alloc::Global;
 
 /// The dimension of the input that a file is to be loaded into, or the first cause why nothing can be loaded, whatever the file:
 /// `Name`, `Kind`, `Dim` or `Range`. Takes no memory.
-fn find_input(scene: &Scene, name: &Name, form: &LoadForm) -> Result<usize, Refusal>
+fn find_input<M: Meter>(scene: &Scene<M>, name: &Name, form: &LoadForm) -> Result<usize, Refusal>
     ensures found { FindsInput result scene.now name.now form.now }
     ensures low { IfOk result (λ dim. 2 ≤ dim) }
     ensures high { IfOk result (λ dim. dim ≤ 6) }
@@ -44,8 +45,8 @@ fn find_input(scene: &Scene, name: &Name, form: &LoadForm) -> Result<usize, Refu
 /// Without a refusal before the file is fetched, it is `Missing` or `Shelf` where none was fetched, `Form` where its bytes state
 /// no solid of the input's dimension, and `Range` where a formula would move a cell out of the limits. Takes memory for the bytes
 /// and for what they state.
-pub fn load<S: Shelf>(
-    scene: &mut Scene,
+pub fn load<M: Meter, S: Shelf>(
+    scene: &mut Scene<M>,
     alloc: Global,
     name: Name,
     form: &LoadForm,
@@ -94,8 +95,8 @@ fn write_form(alloc: Global, form: &SaveForm, solid: &Solid) -> Result<Vec<u8>, 
 ///
 /// It is `Name` where the name does not stand, `Dim` where the form has no solids of its dimension, and `Shelf` where the shelf
 /// failed. Takes memory for the rows and the bytes, and for the boxes and faces that the form writes.
-pub fn save<S: Shelf>(
-    scene: &Scene,
+pub fn save<M: Meter, S: Shelf>(
+    scene: &Scene<M>,
     alloc: Global,
     name: &Name,
     form: &SaveForm,

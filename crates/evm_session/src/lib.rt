@@ -15,8 +15,9 @@
 //! looks at and what it counts with, and for its reply: at most 8 bytes a coordinate of `show`, and about 250 bytes a name of `list`.
 #![tactic(auto)]
 
-ghost use Rattle.std.specs.Prelude.{◌≡◌, IfOk};
-ghost use Rattle.evm_model.specs.Scene.{start};
+ghost use Rattle.std.specs.Prelude.{◌≡◌, ℕ, map, None, Some, IfOk};
+ghost use Rattle.std.specs.List.{slice_get};
+ghost use Rattle.evm_model.specs.Scene.{start_with};
 ghost use Rattle.evm_session.specs.Answers.{Answers, shelf_view};
 
 use std::alloc::Global;
@@ -33,19 +34,21 @@ mod refusals;
 mod replies;
 mod reports;
 mod sections;
+mod slots;
 
 use answers::answer;
+use evm_meter::Meter;
 use evm_outside::Shelf;
 pub use evm_rows::NoMemory;
 use evm_scene::Scene;
 
 /// The names that the lines so far have made, with their solids. Contracts see a scene.
 #[derive(Drop)]
-pub struct Session {
-    scene: Scene,
+pub struct Session<M: Meter> {
+    scene: Scene<M>,
 }
 
-impl Model for Session {
+impl<M: Meter> Model for Session<M> {
     ghost use Rattle.evm_model.specs.Scene.{Scene};
 
     ghost Value = { Scene };
@@ -53,13 +56,16 @@ impl Model for Session {
     ghost view = { λ s. s.scene };
 }
 
-impl Session {
-    /// A session without names. The one error is want of memory.
-    pub fn new(alloc: Global) -> Result<Session, NoMemory>
-        ensures { IfOk result (λ made. made ≡ start) }
+impl<M: Meter> Session<M> {
+    /// A session without names, and with a free slot for each of these meters, in their order. No meter may have a reading yet. The
+    /// one error is want of memory, after which the meters are dropped.
+    pub fn new(alloc: Global, meters: Vec<M>) -> Result<Session<M>, NoMemory>
+        requires { (k : ℕ) (m : M) → slice_get meters.items k ≡ Some m
+            → (M.reading m ≡ None) × (M.pending m ≡ None) }
+        ensures { IfOk result (λ made. made ≡ start_with (map (λ m. M.kind m) meters.items)) }
     {
         Ok(Session {
-            scene: Scene::new(alloc)?,
+            scene: Scene::new(alloc, meters)?,
         })
     }
 

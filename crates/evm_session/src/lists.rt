@@ -15,13 +15,14 @@ ghost use Rattle.evm_script.specs.declared.command.Command.TheVariants as comman
 
 use super::refusals::Refusal;
 use super::replies::{say, say_count, say_number};
+use evm_meter::Meter;
 use evm_rows::NoMemory;
 use evm_scene::Scene;
 use evm_script::{Formula, Name, write_formula};
 use std::alloc::Global;
 
 /// The number of names, and for each in the order of their making a line: the name, its dimension, and `input` or its formula.
-pub fn list(scene: &Scene, alloc: Global, out: &mut Vec<u8>) -> Result<(), Refusal>
+pub fn list<M: Meter>(scene: &Scene<M>, alloc: Global, out: &mut Vec<u8>) -> Result<(), Refusal>
     ensures { Carries result scene.now scene.now out.old.items out.new.items
         (turn_of no_files scene.now commands.List) }
 {
@@ -31,7 +32,7 @@ pub fn list(scene: &Scene, alloc: Global, out: &mut Vec<u8>) -> Result<(), Refus
 }
 
 /// Appends the line of each name.
-fn say_entries(scene: &Scene, alloc: Global, out: &mut Vec<u8>) -> Result<(), NoMemory>
+fn say_entries<M: Meter>(scene: &Scene<M>, alloc: Global, out: &mut Vec<u8>) -> Result<(), NoMemory>
     ensures { Says result out.old.items out.new.items (entries_text scene.now.entries) }
 {
     scene.facts();
@@ -43,7 +44,12 @@ fn say_entries(scene: &Scene, alloc: Global, out: &mut Vec<u8>) -> Result<(), No
 }
 
 /// Appends the line of a name; nothing where it does not stand.
-fn say_entry(scene: &Scene, alloc: Global, name: &Name, out: &mut Vec<u8>) -> Result<(), NoMemory>
+fn say_entry<M: Meter>(
+    scene: &Scene<M>,
+    alloc: Global,
+    name: &Name,
+    out: &mut Vec<u8>,
+) -> Result<(), NoMemory>
     ensures { Says result out.old.items out.new.items
         (entry_line (entry_of scene.now.entries name.now)) }
 {

@@ -12,6 +12,7 @@ use super::refusals::Refusal;
 use super::replies::{say, say_number, say_parts, say_solid};
 use evm_measure as measure;
 use evm_member::{Place, place};
+use evm_meter::Meter;
 use evm_parts as components;
 use evm_rows::limit;
 use evm_scene::Scene;
@@ -19,7 +20,12 @@ use evm_script::{Name, Nums};
 use std::alloc::Global;
 
 /// The extreme vertices.
-pub fn show(scene: &Scene, alloc: Global, name: &Name, out: &mut Vec<u8>) -> Result<(), Refusal>
+pub fn show<M: Meter>(
+    scene: &Scene<M>,
+    alloc: Global,
+    name: &Name,
+    out: &mut Vec<u8>,
+) -> Result<(), Refusal>
     ensures { Carries result scene.now scene.now out.old.items out.new.items
         (turn_of no_files scene.now (commands.Show name.now)) }
 {
@@ -32,7 +38,12 @@ pub fn show(scene: &Scene, alloc: Global, name: &Name, out: &mut Vec<u8>) -> Res
 }
 
 /// The number of cells.
-pub fn content(scene: &Scene, alloc: Global, name: &Name, out: &mut Vec<u8>) -> Result<(), Refusal>
+pub fn content<M: Meter>(
+    scene: &Scene<M>,
+    alloc: Global,
+    name: &Name,
+    out: &mut Vec<u8>,
+) -> Result<(), Refusal>
     ensures { Carries result scene.now scene.now out.old.items out.new.items
         (turn_of no_files scene.now (commands.Content name.now)) }
 {
@@ -46,7 +57,12 @@ pub fn content(scene: &Scene, alloc: Global, name: &Name, out: &mut Vec<u8>) -> 
 }
 
 /// The number of faces between a cell and a place that is no cell.
-pub fn boundary(scene: &Scene, alloc: Global, name: &Name, out: &mut Vec<u8>) -> Result<(), Refusal>
+pub fn boundary<M: Meter>(
+    scene: &Scene<M>,
+    alloc: Global,
+    name: &Name,
+    out: &mut Vec<u8>,
+) -> Result<(), Refusal>
     ensures { Carries result scene.now scene.now out.old.items out.new.items
         (turn_of no_files scene.now (commands.Boundary name.now)) }
 {
@@ -60,7 +76,12 @@ pub fn boundary(scene: &Scene, alloc: Global, name: &Name, out: &mut Vec<u8>) ->
 }
 
 /// The parts: of each the number of its extreme vertices, its content, and the extreme vertices.
-pub fn parts(scene: &Scene, alloc: Global, name: &Name, out: &mut Vec<u8>) -> Result<(), Refusal>
+pub fn parts<M: Meter>(
+    scene: &Scene<M>,
+    alloc: Global,
+    name: &Name,
+    out: &mut Vec<u8>,
+) -> Result<(), Refusal>
     ensures { Carries result scene.now scene.now out.old.items out.new.items
         (turn_of no_files scene.now (commands.Parts name.now)) }
 {
@@ -75,8 +96,8 @@ pub fn parts(scene: &Scene, alloc: Global, name: &Name, out: &mut Vec<u8>) -> Re
 }
 
 /// Whether a cell is filled.
-pub fn at(
-    scene: &Scene,
+pub fn at<M: Meter>(
+    scene: &Scene<M>,
     alloc: Global,
     name: &Name,
     nums: &Nums,
@@ -115,8 +136,8 @@ fn filled_text(filled: bool) -> &'static [u8]
 }
 
 /// Where a point stands.
-pub fn point(
-    scene: &Scene,
+pub fn point<M: Meter>(
+    scene: &Scene<M>,
     alloc: Global,
     name: &Name,
     nums: &Nums,

@@ -2,7 +2,7 @@
 
 ghost use Rattle.std.specs.Prelude.{◌≡◌};
 ghost use Rattle.evm_model.specs.Replies.{No, reply_text};
-ghost use Rattle.evm_session.specs.Refusals.{code_of, of_line_error, of_scene_refusal, of_fetch_error, of_place_error};
+ghost use Rattle.evm_session.specs.Refusals.{code_of, of_line_error, of_scene_refusal, of_attach_error, of_fetch_error, of_place_error};
 ghost use Rattle.evm_session.specs.Refusals.{of_file_error, of_box_file_error, of_voxel_error};
 ghost use Rattle.evm_session.specs.declared.refusals.Refusal.TheVariants as refusals;
 
@@ -23,11 +23,13 @@ pub enum Refusal {
     Syntax,
     /// The name does not stand.
     Name,
+    /// There is no such slot, or its meter watches a name already or was given up; or a slot watches no name.
+    Meter,
     /// The name of a new input stands already.
     Taken,
     /// A box edit of a formula, a file that is loaded into one, or a definition of an input.
     Kind,
-    /// The name is an operand of a formula.
+    /// The name is an operand of a formula, or a meter watches it.
     Used,
     /// The formula would reach its own name through its operands.
     Cycle,
@@ -67,6 +69,18 @@ impl From<scene::Refusal> for Refusal {
             scene::Refusal::Dim => Refusal::Dim,
             scene::Refusal::Range => Refusal::Range,
             scene::Refusal::NoMemory => Refusal::NoMemory,
+        }
+    }
+}
+
+impl From<scene::AttachError> for Refusal {
+    ghost from_gives = { λ e r. r ≡ of_attach_error e };
+
+    fn from(e: scene::AttachError) -> Refusal {
+        match e {
+            scene::AttachError::Name => Refusal::Name,
+            scene::AttachError::Slot => Refusal::Meter,
+            scene::AttachError::NoMemory => Refusal::NoMemory,
         }
     }
 }
@@ -149,6 +163,7 @@ impl Refusal {
             Refusal::Line => b"no line\n",
             Refusal::Syntax => b"no syntax\n",
             Refusal::Name => b"no name\n",
+            Refusal::Meter => b"no meter\n",
             Refusal::Taken => b"no taken\n",
             Refusal::Kind => b"no kind\n",
             Refusal::Used => b"no used\n",

@@ -12,6 +12,7 @@ ghost use Rattle.evm_script.specs.declared.command.Command.TheVariants as comman
 use super::refusals::Refusal;
 use super::replies::say;
 use evm_measure::{boundary, content};
+use evm_meter::Meter;
 use evm_parts::parts;
 use evm_report::{Report, report_text};
 use evm_rows::{NoMemory, Solid};
@@ -179,7 +180,12 @@ fn text_on(
 }
 
 /// One JSON object: the dimension, what the name stands for, its measures, the number of its parts, and its ends on each axis.
-pub fn report(scene: &Scene, alloc: Global, name: &Name, out: &mut Vec<u8>) -> Result<(), Refusal>
+pub fn report<M: Meter>(
+    scene: &Scene<M>,
+    alloc: Global,
+    name: &Name,
+    out: &mut Vec<u8>,
+) -> Result<(), Refusal>
     ensures { Carries result scene.now scene.now out.old.items out.new.items
         (turn_of no_files scene.now (commands.Report name.now)) }
 {

@@ -13,6 +13,7 @@ ghost use Rattle.evm_script.specs.declared.command.Command.TheVariants as comman
 use super::refusals::Refusal;
 use super::replies::{say_cuts, say_solid};
 use evm_faces::cut_faces;
+use evm_meter::Meter;
 use evm_rows::{NoMemory, Solid, limit};
 use evm_scene::Scene;
 use evm_script::{Name, Num};
@@ -67,8 +68,8 @@ fn section_of(alloc: Global, tree: &Tiles, along: usize, at: i32) -> Result<Soli
 }
 
 /// The extreme vertices of the section at a height on an axis.
-pub fn section(
-    scene: &Scene,
+pub fn section<M: Meter>(
+    scene: &Scene<M>,
     alloc: Global,
     name: &Name,
     axis: &Num,
@@ -96,8 +97,8 @@ pub fn section(
 }
 
 /// The extreme vertices of the solid with an axis left out.
-pub fn project(
-    scene: &Scene,
+pub fn project<M: Meter>(
+    scene: &Scene<M>,
     alloc: Global,
     name: &Name,
     axis: &Num,
@@ -122,8 +123,8 @@ pub fn project(
 }
 
 /// How much rises and how much falls at each cut of an axis.
-pub fn faces(
-    scene: &Scene,
+pub fn faces<M: Meter>(
+    scene: &Scene<M>,
     alloc: Global,
     name: &Name,
     axis: &Num,

@@ -1,6 +1,7 @@
 -- One line that was answered, and all lines so far.
 use Rattle.std.specs.Prelude.{ℕ, ◌≡◌, ◌≤◌, ◌⊎◌, Bool, true, false, not, ◌||◌, List, [], ◌∷◌, ◌++◌, ◌-◌, All, length, drop, Option, is_some, Result, Ok, Err}
 use Rattle.std.specs.Io.KnownBytes.{Appends, Consumes}
+use Rattle.evm_cells.specs.Localities.{Measure}
 use Rattle.evm_outside.specs.declared.Failed.{Failed}
 use Rattle.evm_outside.specs.Causes.{Climbed, MayClimb}
 use Rattle.evm_model.specs.Scene.{Scene}
@@ -43,15 +44,15 @@ pub record Serves (result : Result Bool Failed) (old new : Scene)
   pub misses : MissesOver (answer (world_of old shelf_old.files) line mark).reply shelf_old.misses shelf_new.misses
 
 -- of these lines all but the rest were answered, and some reply refused or none did
-pub record Progress (ls rest : List (List ℕ)) (scene : Scene)
+pub record Progress (kinds : List Measure) (ls rest : List (List ℕ)) (scene : Scene)
     (before now : Option (List ℕ)) (some : Bool) (shelf_before shelf_now : ShelfView) : Type 0 where
   pub marks : List Mark
   pub most : length marks ≤ length ls
   pub left : drop (length marks) ls ≡ rest
-  pub reached : scene ≡ (world_after (first_world shelf_before) ls marks).scene
-  pub shelf : LeavesShelf ls marks shelf_before shelf_now
-  pub text : Appends before now (texts (run (first_world shelf_before) ls marks))
-  pub refused : some_no (run (first_world shelf_before) ls marks) ≡ some
+  pub reached : scene ≡ (world_after (first_world kinds shelf_before) ls marks).scene
+  pub shelf : LeavesShelf kinds ls marks shelf_before shelf_now
+  pub text : Appends before now (texts (run (first_world kinds shelf_before) ls marks))
+  pub refused : some_no (run (first_world kinds shelf_before) ls marks) ≡ some
 
 -- what the answers change: the scene, what was written, and the shelf
 pub record State : Type 0 where

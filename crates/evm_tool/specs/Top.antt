@@ -2,9 +2,10 @@
 use Rattle.std.specs.Prelude.{ℕ, ◌≡◌, ◌+◌, ◌<◌, ◌≤◌, ◌⊎◌, Bool, true, false, List, [], ◌∷◌, ◌++◌, length, take, drop, count_by, Option, None, Some, is_some}
 use Rattle.std.specs.List.{list_any}
 use Rattle.std.specs.Io.KnownBytes.{Appends, Consumes, Keeps, IsAtEnd}
+use Rattle.evm_cells.specs.Localities.{Measure}
 use Rattle.evm_outside.specs.Causes.{Rose, counter_last}
 use Rattle.evm_outside.specs.Shelves.{KeepsFiles}
-use Rattle.evm_model.specs.Scene.{start}
+use Rattle.evm_model.specs.Scene.{start_with}
 use Rattle.evm_model.specs.Edits.{Shelf, Missing, Memory}
 use Rattle.evm_model.specs.Replies.{Reply, No, reply_text}
 use Rattle.evm_model.specs.Runs.{World, Mark, answer, may_all_have, run, world_after, texts, some_no}
@@ -18,9 +19,9 @@ use Rattle.evm_tool.specs.Streams.{script_limit, piece_max}
 use Rattle.evm_tool.specs.declared.top.Status.{Status}
 use Rattle.evm_tool.specs.declared.top.Status.TheVariants.{Done, Refused, Words, ReadFault, WriteFault, NoMemory, TooLong}
 
--- the world in which a run starts: no names, and the files that the shelf tells
-abbrev pub first_world : ShelfView → World
-first_world shelf = world_of start shelf.files
+-- the world in which a run starts: no names, free meters of these kinds, and the files that the shelf tells
+abbrev pub first_world : List Measure → ShelfView → World
+first_world kinds shelf = world_of (start_with kinds) shelf.files
 
 -- whether a reply is `no shelf`
 abbrev pub is_no_shelf : Reply → Bool
@@ -48,40 +49,40 @@ pub record Counts (kind : Reply → Bool) (replies : List Reply) (before now : �
   pub stays : list_any kind replies ≡ false → list_any is_no_memory replies ≡ false → now ≡ before
 
 -- what answering these lines with these marks leaves of the shelf: the files of the run, and counts that tell of its replies
-pub record LeavesShelf (ls : List (List ℕ)) (marks : List Mark) (before now : ShelfView) : Type 0 where
-  pub allowed : may_all_have (is_some before.files) (first_world before) ls marks ≡ true
+pub record LeavesShelf (kinds : List Measure) (ls : List (List ℕ)) (marks : List Mark) (before now : ShelfView) : Type 0 where
+  pub allowed : may_all_have (is_some before.files) (first_world kinds before) ls marks ≡ true
   pub told : is_some now.files ≡ is_some before.files
-  pub files : AreFiles now.files (world_after (first_world before) ls marks).files
-  pub faults : Counts is_no_shelf (run (first_world before) ls marks) before.faults now.faults
-  pub misses : Counts is_no_missing (run (first_world before) ls marks) before.misses now.misses
+  pub files : AreFiles now.files (world_after (first_world kinds before) ls marks).files
+  pub faults : Counts is_no_shelf (run (first_world kinds before) ls marks) before.faults now.faults
+  pub misses : Counts is_no_missing (run (first_world kinds before) ls marks) before.misses now.misses
 
 -- all these lines were answered, with one mark each, and some reply refuses or none does
-pub record Answers (ls : List (List ℕ)) (gained : List ℕ) (some : Bool) (before now : ShelfView) : Type 0 where
+pub record Answers (kinds : List Measure) (ls : List (List ℕ)) (gained : List ℕ) (some : Bool) (before now : ShelfView) : Type 0 where
   pub marks : List Mark
   pub each : length marks ≡ length ls
-  pub shelf : LeavesShelf ls marks before now
-  pub text : gained ≡ texts (run (first_world before) ls marks)
-  pub refused : some_no (run (first_world before) ls marks) ≡ some
+  pub shelf : LeavesShelf kinds ls marks before now
+  pub text : gained ≡ texts (run (first_world kinds before) ls marks)
+  pub refused : some_no (run (first_world kinds before) ls marks) ≡ some
 
 -- some of these lines were answered whole and one more in part: a front of its reply was written, and not all of it
-pub record Begins (ls : List (List ℕ)) (gained : List ℕ) (before now : ShelfView) : Type 0 where
+pub record Begins (kinds : List Measure) (ls : List (List ℕ)) (gained : List ℕ) (before now : ShelfView) : Type 0 where
   pub marks : List Mark
   pub mark : Mark
   pub line : List ℕ
   pub later : List (List ℕ)
   pub here : drop (length marks) ls ≡ line ∷ later
-  pub shelf : LeavesShelf ls (marks ++ mark ∷ []) before now
+  pub shelf : LeavesShelf kinds ls (marks ++ mark ∷ []) before now
   pub front : List ℕ
   pub rest : List ℕ
   pub more : 0 < length rest
-  pub cut : front ++ rest ≡ reply_text (answer (world_after (first_world before) ls marks) line mark).reply
-  pub text : gained ≡ texts (run (first_world before) ls marks) ++ front
+  pub cut : front ++ rest ≡ reply_text (answer (world_after (first_world kinds before) ls marks) line mark).reply
+  pub text : gained ≡ texts (run (first_world kinds before) ls marks) ++ front
 
 -- the sink failed at the reply to one of the lines, the k-th: those before it were answered whole, and of its own reply only a front
 -- was written. It was a whole line when it was answered: an LF ends it, or the input ends with it. At most one piece was taken after it
-pub record StopsAt (left_now : Option (List ℕ)) (taken gained : List ℕ)
+pub record StopsAt (kinds : List Measure) (left_now : Option (List ℕ)) (taken gained : List ℕ)
     (before now : ShelfView) : Type 0 where
-  pub begins : Begins (lines taken) gained before now
+  pub begins : Begins kinds (lines taken) gained before now
   pub upto : List ℕ
   pub after : List ℕ
   pub whole : taken ≡ upto ++ after
@@ -98,20 +99,20 @@ abbrev pub DoesNothing : List ℕ → ShelfView → ShelfView → Type 0
 DoesNothing gained before now = (gained ≡ []) × KeepsShelf before now
 
 -- all these lines were answered, whether some reply refuses or not
-abbrev pub AnswersAll : List (List ℕ) → List ℕ → ShelfView → ShelfView → Type 0
-AnswersAll ls gained before now = (some : Bool) × Answers ls gained some before now
+abbrev pub AnswersAll : List Measure → List (List ℕ) → List ℕ → ShelfView → ShelfView → Type 0
+AnswersAll kinds ls gained before now = (some : Bool) × Answers kinds ls gained some before now
 
 -- which lines were answered and what was written, by the bytes that were taken: all lines; where the source failed, those that an LF ends;
 -- where the sink failed, those up to the one whose reply was cut; of a script that is too long, those that an LF ends among the bytes
 -- that a script may have
-abbrev pub Writes : Status → Option (List ℕ) → List ℕ → List ℕ → ShelfView → ShelfView → Type 0
-Writes Done left_now taken gained before now = Answers (lines taken) gained false before now
-Writes Refused left_now taken gained before now = Answers (lines taken) gained true before now
-Writes Words left_now taken gained before now = DoesNothing gained before now
-Writes ReadFault left_now taken gained before now = AnswersAll (ended_lines taken) gained before now
-Writes WriteFault left_now taken gained before now = StopsAt left_now taken gained before now
-Writes NoMemory left_now taken gained before now = DoesNothing gained before now
-Writes TooLong left_now taken gained before now = AnswersAll (ended_lines (take script_limit taken)) gained before now
+abbrev pub Writes : Status → List Measure → Option (List ℕ) → List ℕ → List ℕ → ShelfView → ShelfView → Type 0
+Writes Done kinds left_now taken gained before now = Answers kinds (lines taken) gained false before now
+Writes Refused kinds left_now taken gained before now = Answers kinds (lines taken) gained true before now
+Writes Words kinds left_now taken gained before now = DoesNothing gained before now
+Writes ReadFault kinds left_now taken gained before now = AnswersAll kinds (ended_lines taken) gained before now
+Writes WriteFault kinds left_now taken gained before now = StopsAt kinds left_now taken gained before now
+Writes NoMemory kinds left_now taken gained before now = DoesNothing gained before now
+Writes TooLong kinds left_now taken gained before now = AnswersAll kinds (ended_lines (take script_limit taken)) gained before now
 
 -- all known bytes are these, and they are no more than a script may have
 abbrev pub TakesAll : Option (List ℕ) → Option (List ℕ) → List ℕ → Type 0
@@ -128,13 +129,13 @@ Takes NoMemory before now taken = Consumes before now taken × (taken ≡ [])
 Takes TooLong before now taken = Consumes before now taken × (length taken ≡ script_limit + 1)
 
 -- some bytes were taken, whatever they are, and what was written and left of the shelf is what a run of these bytes writes and leaves
-pub record Runs (status : Status) (left left_now written written_now : Option (List ℕ))
+pub record Runs (kinds : List Measure) (status : Status) (left left_now written written_now : Option (List ℕ))
     (shelf shelf_now : ShelfView) : Type 0 where
   pub taken : List ℕ
   pub takes : Takes status left left_now taken
   pub gained : List ℕ
   pub appended : Appends written written_now gained
-  pub writes : Writes status left_now taken gained shelf shelf_now
+  pub writes : Writes status kinds left_now taken gained shelf shelf_now
 
 -- the source's count of faults rose where a read fault is answered, and else it is as before
 abbrev pub ReadFaults : Status → ℕ → ℕ → Type 0
@@ -197,13 +198,13 @@ pub record Makes (status : Status) (seed edits : ℕ)
   pub shelf_kept : shelf_now ≡ shelf
 
 -- what words ask for was done; where they ask for nothing, nothing was
-abbrev pub Does : Option Form → Status → Option (List ℕ) → Option (List ℕ)
+abbrev pub Does : Option Form → List Measure → Status → Option (List ℕ) → Option (List ℕ)
     → Option (List ℕ) → Option (List ℕ) → ShelfView → ShelfView → Type 0
-Does None status left left_now written written_now shelf shelf_now =
-    Runs status left left_now written written_now shelf shelf_now
-Does (Some Run) status left left_now written written_now shelf shelf_now =
-    Runs status left left_now written written_now shelf shelf_now
-Does (Some (Gen seed edits)) status left left_now written written_now shelf shelf_now =
+Does None kinds status left left_now written written_now shelf shelf_now =
+    Runs kinds status left left_now written written_now shelf shelf_now
+Does (Some Run) kinds status left left_now written written_now shelf shelf_now =
+    Runs kinds status left left_now written written_now shelf shelf_now
+Does (Some (Gen seed edits)) kinds status left left_now written written_now shelf shelf_now =
     Makes status seed edits left left_now written written_now shelf shelf_now
 
 -- the exit status

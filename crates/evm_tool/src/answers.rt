@@ -9,6 +9,7 @@ ghost use Rattle.evm_tool.specs.EndedLines.{HasNoLf};
 ghost use Rattle.evm_tool.specs.Served.{Serves, AnswersEnded, state_of};
 
 use super::send::send;
+use evm_meter::Meter;
 use evm_outside::{Failed, Shelf, Sink};
 use evm_session::{NoMemory, Session};
 use std::alloc::Global;
@@ -16,9 +17,9 @@ use std::alloc::Global;
 /// Answers one line, and says whether it was not refused. Want of memory is a reply too.
 ///
 /// The reply is gathered in `out`, whose room is used again for the next line.
-pub fn serve<O: Sink, S: Shelf>(
+pub fn serve<O: Sink, S: Shelf, M: Meter>(
     alloc: Global,
-    session: &mut Session,
+    session: &mut Session<M>,
     line: &[u8],
     shelf: &mut S,
     out: &mut Vec<u8>,
@@ -62,9 +63,9 @@ fn first_ended(text: &[u8]) -> Option<(&[u8], &[u8])>
 }
 
 /// Answers each line of a text that an LF ends, and says how many bytes are left behind them, and whether some reply refuses.
-pub fn answer_ended<O: Sink, S: Shelf>(
+pub fn answer_ended<O: Sink, S: Shelf, M: Meter>(
     alloc: Global,
-    session: &mut Session,
+    session: &mut Session<M>,
     text: &[u8],
     shelf: &mut S,
     out: &mut Vec<u8>,

@@ -10,6 +10,7 @@ ghost use Rattle.evm_tool.specs.Top.{WriteFaults};
 use super::send::send;
 use super::top::Status;
 use evm_generator::{Generator, generated_scripts_are_as_stated};
+use evm_meter::{Meter, StockMeter};
 use evm_outside::{FetchError, PlaceError, Shelf, Sink};
 use evm_session::{NoMemory, Session};
 use evm_text::append_count;
@@ -99,9 +100,9 @@ impl Tally {
 }
 
 /// The reply to one line in place of the text, and whether it does not refuse. Want of memory is a reply too.
-fn reply_to(
+fn reply_to<M: Meter>(
     alloc: Global,
-    session: &mut Session,
+    session: &mut Session<M>,
     line: &[u8],
     reply: &mut Vec<u8>,
 ) -> Result<bool, NoMemory>
@@ -123,7 +124,7 @@ fn tally_of(alloc: Global, seed: u64, edits: u32) -> Result<Tally, NoMemory>
     ensures { IfOk result (λ tally. Sums seed edits tally.fine tally.refused tally.last.items) }
 {
     generated_scripts_are_as_stated();
-    let mut session = Session::new(alloc)?;
+    let mut session: Session<StockMeter> = Session::new(alloc, Vec::new(alloc))?;
     let mut generator = Generator::new(seed, edits);
     let passed_over = edits as usize + FIRST_LINES;
     let mut tally = Tally {

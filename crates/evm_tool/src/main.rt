@@ -13,7 +13,9 @@ mod take;
 mod tests;
 mod top;
 
+use evm_meter::StockMeter;
 use evm_outside::{FolderShelf, StdSink, StdSource};
+use std::alloc::{AllocError, Global};
 use std::env;
 use std::io::ErrorKind;
 use std::process::ExitCode;
@@ -32,22 +34,43 @@ fn words_of(rt: &HostRuntime) -> Result<Vec<String>, Status> {
     }
 }
 
-fn main(rt: HostRuntime) -> ExitCode {
-    let status = match words_of(&rt) {
-        Ok(words) => {
-            let mut input = StdSource::new(rt.stdin());
-            let mut output = StdSink::new(rt.stdout());
-            let mut shelf = FolderShelf::new(&rt);
-            evm_main(
-                rt.alloc(),
-                words.as_slice(),
-                &mut input,
-                &mut output,
-                &mut shelf,
-            )
-        }
-        Err(status) => status,
+/// The meters of the program: two of each kind, so that slots 0 and 3 read content, 1 and 4 boundary content, 2 and 5 the number of
+/// extreme vertices.
+fn stock_meters(alloc: Global) -> Result<Vec<StockMeter>, AllocError> {
+    vec![in alloc;
+        StockMeter::content(),
+        StockMeter::boundary(),
+        StockMeter::vertices(),
+        StockMeter::content(),
+        StockMeter::boundary(),
+        StockMeter::vertices(),
+    ]
+}
+
+/// Runs the program over its real source, sink, shelf and meters.
+fn status_of(rt: &HostRuntime) -> Status {
+    let words = match words_of(rt) {
+        Ok(words) => words,
+        Err(status) => return status,
     };
+    let Ok(meters) = stock_meters(rt.alloc()) else {
+        return Status::NoMemory;
+    };
+    let mut input = StdSource::new(rt.stdin());
+    let mut output = StdSink::new(rt.stdout());
+    let mut shelf = FolderShelf::new(rt);
+    evm_main(
+        rt.alloc(),
+        words.as_slice(),
+        &mut input,
+        &mut output,
+        &mut shelf,
+        meters,
+    )
+}
+
+fn main(rt: HostRuntime) -> ExitCode {
+    let status = status_of(&rt);
     if status == Status::Words {
         let _ = eprintln!(rt; "usage: evm run | evm gen --seed S --edits N");
     }

@@ -10,14 +10,15 @@ ghost use Rattle.evm_tool.specs.Top.{ReadFaults, WriteFaults};
 use super::answers::{answer_ended, serve};
 use super::take::{PIECE, SCRIPT_LIMIT, keep, read_behind};
 use super::top::Status;
+use evm_meter::Meter;
 use evm_outside::{Shelf, Sink, Source};
 use evm_session::Session;
 use std::alloc::Global;
 
 /// Answers what follows the last LF, where some byte does, and says how the script was answered.
-fn answer_last<O: Sink, S: Shelf>(
+fn answer_last<O: Sink, S: Shelf, M: Meter>(
     alloc: Global,
-    session: &mut Session,
+    session: &mut Session<M>,
     line: &[u8],
     refused: bool,
     shelf: &mut S,
@@ -44,9 +45,9 @@ fn answer_last<O: Sink, S: Shelf>(
 /// Answers the lines of a script, each before the next one and before more is read than the piece in which it ends.
 ///
 /// Of a line that is not ended no more is kept than a line may have and two bytes: then it is too long, whatever follows.
-pub fn answer_script<I: Source, O: Sink, S: Shelf>(
+pub fn answer_script<I: Source, O: Sink, S: Shelf, M: Meter>(
     alloc: Global,
-    session: &mut Session,
+    session: &mut Session<M>,
     input: &mut I,
     buffer: &mut [u8],
     shelf: &mut S,

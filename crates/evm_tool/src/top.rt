@@ -1,6 +1,7 @@
 //! The top call.
 
-ghost use Rattle.std.specs.Prelude.{◌≡◌, map, IfSome, string_bytes};
+ghost use Rattle.std.specs.Prelude.{◌≡◌, ℕ, map, None, Some, IfSome, string_bytes};
+ghost use Rattle.std.specs.List.{slice_get};
 ghost use Rattle.evm_session.specs.Answers.{shelf_view};
 ghost use Rattle.evm_words.specs.Words.{form_of_words};
 ghost use Rattle.evm_tool.specs.Top.{Runs, Does, TellsForm, ReadFaults, WriteFaults, Finishes, Completes, exit_code};
@@ -8,6 +9,7 @@ ghost use Rattle.evm_tool.specs.Top.{Runs, Does, TellsForm, ReadFaults, WriteFau
 use super::generated::answer_generated;
 use super::script::answer_script;
 use super::take::new_buffer;
+use evm_meter::Meter;
 use evm_outside::{Shelf, Sink, Source};
 use evm_session::Session;
 use evm_words::{Form, WordsError, read_words};
@@ -51,13 +53,16 @@ impl Status {
 }
 
 /// Answers the script of a source in a new session.
-fn answer_input<I: Source, O: Sink, S: Shelf>(
+fn answer_input<I: Source, O: Sink, S: Shelf, M: Meter>(
     alloc: Global,
     input: &mut I,
     output: &mut O,
     shelf: &mut S,
+    meters: Vec<M>,
 ) -> Status
-    ensures run { Runs result (I.left input.old) (I.left input.new) (O.written output.old) (O.written output.new)
+    requires { (k : ℕ) (m : M) → slice_get meters.items k ≡ Some m
+        → (M.reading m ≡ None) × (M.pending m ≡ None) }
+    ensures run { Runs (map (λ m. M.kind m) meters.items) result (I.left input.old) (I.left input.new) (O.written output.old) (O.written output.new)
         (shelf_view (S.files shelf.old) (S.faults shelf.old) (S.misses shelf.old))
         (shelf_view (S.files shelf.new) (S.faults shelf.new) (S.misses shelf.new)) }
     ensures words { result ≡ Status.Words → ⊥ }
@@ -68,7 +73,7 @@ fn answer_input<I: Source, O: Sink, S: Shelf>(
         (I.left input.old) (I.left input.new) (O.written output.old) (O.written output.new)
         (I.faults input.old) (I.faults input.new) (O.faults output.old) (O.faults output.new)) }
 {
-    let Ok(mut session) = Session::new(alloc) else {
+    let Ok(mut session) = Session::new(alloc, meters) else {
         return Status::NoMemory;
     };
     let Ok(mut buffer) = new_buffer(alloc) else {
@@ -105,13 +110,19 @@ fn answer_input<I: Source, O: Sink, S: Shelf>(
 /// before it; then for the reply of a line and for what a line does.
 ///
 /// `shelf` has the files of the lines `load` and `save`. A line saves to it before its reply is written.
-pub fn evm_main<I: Source, O: Sink, S: Shelf>(
+///
+/// `meters` have a slot each, counted from 0, and no reading yet: the lines `meter`, `read` and `unmeter` hand them to names. Whatever
+/// meters are handed in, as long as they keep the contract of [`Meter`], what they read is the measure of their names' values.
+pub fn evm_main<I: Source, O: Sink, S: Shelf, M: Meter>(
     alloc: Global,
     words: &[String],
     input: &mut I,
     output: &mut O,
     shelf: &mut S,
+    meters: Vec<M>,
 ) -> Status
+    requires { (k : ℕ) (m : M) → slice_get meters.items k ≡ Some m
+        → (M.reading m ≡ None) × (M.pending m ≡ None) }
     // For `gen` there is a mark for each line of the generated script, none or that memory was missing, so that the summary of the
     // run with these marks was written whole at status 0 and 1, at 1 exactly where it refuses a line; a front of it at 4; nothing
     // at 5; and no other status comes. For `run` some bytes were taken, whatever the source tells of them, and the first k of their
@@ -119,7 +130,8 @@ pub fn evm_main<I: Source, O: Sink, S: Shelf>(
     // those that an LF ends among the bytes that a script may have; at 4 those up to the one whose reply was cut, and at most one
     // piece was taken after it; none at 2 and 5, at which no byte was taken. Replies, files and the shelf's counts are those of the
     // run of these k lines.
-    ensures run { Does (form_of_words (map string_bytes words.now)) result
+    ensures run { Does (form_of_words (map string_bytes words.now))
+        (map (λ m. M.kind m) meters.items) result
         (I.left input.old) (I.left input.new) (O.written output.old) (O.written output.new)
         (shelf_view (S.files shelf.old) (S.faults shelf.old) (S.misses shelf.old))
         (shelf_view (S.files shelf.new) (S.faults shelf.new) (S.misses shelf.new)) }
@@ -135,7 +147,7 @@ pub fn evm_main<I: Source, O: Sink, S: Shelf>(
         (I.faults input.old) (I.faults input.new) (O.faults output.old) (O.faults output.new)) }
 {
     match read_words(alloc, words) {
-        Ok(Form::Run) => answer_input(alloc, input, output, shelf),
+        Ok(Form::Run) => answer_input(alloc, input, output, shelf, meters),
         Ok(Form::Gen { seed, edits }) => answer_generated(alloc, seed, edits, output),
         Err(WordsError::NoForm) => Status::Words,
         Err(WordsError::NoMemory) => Status::NoMemory,
