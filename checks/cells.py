@@ -28,7 +28,7 @@ save NAME evm FILE; save NAME boxes FILE; save NAME faces FILE; save NAME obj FI
 def NAME or NAME NAME; def NAME and NAME NAME; def NAME sub NAME NAME; def NAME xor NAME NAME
 def NAME box NUMBER NUMBERS; def NAME shift NAME NUMBERS; def NAME clip NAME NUMBERS; def NAME mirror NAME NUMBER
 def NAME swap NAME NUMBER NUMBER; def NAME slice NAME NUMBER NUMBER; def NAME proj NAME NUMBER
-def NAME lift NAME NUMBER NUMBER NUMBER
+def NAME lift NAME NUMBER NUMBER NUMBER; meter NUMBER NAME; read NUMBER; unmeter NUMBER
 """.replace("\n", ";").split(";") if form.strip()]
 WORDS = {"NAME": re.compile(r"[a-z][a-z0-9_]{0,31}"), "NUMBER": re.compile(r"-?[0-9]{1,10}"),
          "FILE": re.compile(r"[A-Za-z0-9_][A-Za-z0-9_.-]{0,63}")}
@@ -377,6 +377,7 @@ class Session:
         self.dim = {}        # name -> dimension, in the order of making
         self.formula = {}    # name -> words of its formula, or None for an input
         self.cells = {}      # name -> its cells
+        self.slots = [[measure, None] for measure in ("content", "boundary", "points") * 2]   # what each measures, and the name it watches
 
     def answer(self, line):
         words = re.split(r"[ \t]+", line.removesuffix("\r").strip(" \t"))
@@ -385,7 +386,8 @@ class Session:
         try:
             refuse_if(len(line.removesuffix("\r")) > 4096, "line")
             refuse_if(not any(has_form(words, form) for form in FORMS), "syntax")
-            refuse_if(words[0] not in ("input", "def", "list") and words[1] not in self.dim, "name")
+            named = words[2] if words[0] == "meter" else words[1] if len(words) > 1 else None
+            refuse_if(words[0] not in ("input", "def", "list", "read", "unmeter") and named not in self.dim, "name")
             return getattr(self, words[0])(*words[1:])
         except Refused as refusal:
             return [f"no {refusal}"]
@@ -501,7 +503,7 @@ class Session:
         return self.put(name, dim, [operator, *names, *map(str, numbers)], None)
 
     def drop(self, name):
-        refuse_if(any(name in self.operands(each) for each in self.dim), "used")
+        refuse_if(any(name in self.operands(each) for each in self.dim) or any(name == watched for _, watched in self.slots), "used")
         for table in (self.dim, self.formula, self.cells):
             del table[name]
         return ["ok 0"]
@@ -547,6 +549,28 @@ class Session:
                 "kind": (self.formula[name] or ["input"])[0], "low": [min(axis) for axis in zip(*points)], "name": name,
                 "operands": self.operands(name), "parts": len(parts(cells)), "vertices": len(points)}
         return ["ok " + json.dumps(said, separators=(",", ":"))]
+
+    def points(self, name):
+        return [f"ok {len(vertices(self.cells[name], self.dim[name]))}"]
+
+    def slot(self, number, free):
+        """The slot of a number, where its meter is free or watches a name as is asked."""
+        refuse_if(not 0 <= int(number) < len(self.slots), "meter")
+        measure, watched = self.slots[int(number)]
+        refuse_if(measure is None or (watched is None) != free, "meter")
+        return self.slots[int(number)]
+
+    def meter(self, number, name):
+        self.slot(number, free=True)[1] = name
+        return self.read(number)
+
+    def read(self, number):
+        measure, watched = self.slot(number, free=False)
+        return getattr(self, measure)(watched)
+
+    def unmeter(self, number):
+        self.slot(number, free=False)[:] = [None, None]
+        return ["ok"]
 
     def at(self, name, *words):
         cell = tuple(int(word) for word in words)
