@@ -6,8 +6,10 @@
 //! each reading as it was.
 #![tactic(auto)]
 
+mod failing;
 mod meter;
 mod stock;
 
+pub use failing::FailingMeter;
 pub use meter::{Kind, Meter};
 pub use stock::StockMeter;

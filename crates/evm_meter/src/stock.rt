@@ -1,6 +1,6 @@
 //! The meters that measure anew what they are handed.
 
-ghost use Rattle.std.specs.Prelude.{◌≡◌, ℕ, true, pos, None, Some, is_some, option_map, OnOk, OnErr};
+ghost use Rattle.std.specs.Prelude.{◌≡◌, ◌<◌, ◌^◌, ℕ, true, pos, None, Some, is_some, option_map, IfOk, OnOk, OnErr};
 ghost use Rattle.evm_rows.specs.View.{vertices_of};
 ghost use Rattle.evm_meter.specs.Meters.{measure_named, measured, IsLess, IsNearChange, is_few, moved_by};
 
@@ -8,8 +8,11 @@ use super::meter::{Kind, Meter};
 use evm_rows::{NoMemory, Rows};
 use std::alloc::Global;
 
-/// A meter that measures the parts of a change anew, and keeps the sum. It keeps no rows, and a reading takes the memory of a measure
-/// of what it is handed, which it gives back.
+/// A meter that measures the parts of a change anew, and keeps the sum. It keeps no rows: its two readings are numbers.
+///
+/// To begin takes the memory of a measure of the whole solid, and to prepare that of a measure of the part before a change and
+/// then of the part after it: for content and boundary content two sections a level of the dimension, as `evm_measure` says, and for
+/// the number of extreme vertices none. It is given back before the call returns. No reading overflows: each is below `2^127`.
 #[derive(Drop)]
 pub struct StockMeter {
     /// What it measures.
@@ -20,6 +23,19 @@ pub struct StockMeter {
     pending: Option<u128>,
     ghost few: { is_few reading ≡ true },
     ghost few_pending: { is_few pending ≡ true },
+}
+
+// The measure of this kind of the cells that a view shows.
+fn reading_of(kind: Kind, alloc: Global, solid: Rows<'_>) -> Result<u128, NoMemory>
+    ensures measure { IfOk result
+        (λ n. n ≡ measured (measure_named kind) (vertices_of solid.entry)) }
+    ensures few { IfOk result (λ n. n < 2 ^ 127) }
+{
+    match kind {
+        Kind::Content => evm_measure::content(alloc, solid),
+        Kind::Boundary => evm_measure::boundary(alloc, solid),
+        Kind::Vertices => Ok(solid.len() as u128),
+    }
 }
 
 impl StockMeter {
@@ -35,6 +51,34 @@ impl StockMeter {
             pending: None,
         }
     }
+
+    /// A meter of the content: of the number of cells. It has no reading. Takes no memory.
+    pub fn content() -> StockMeter
+        ensures kind { result.kind ≡ Kind.Content }
+        ensures reading { result.reading ≡ None }
+        ensures pending { result.pending ≡ None }
+    {
+        StockMeter::new(Kind::Content)
+    }
+
+    /// A meter of the boundary content: of the number of unit faces between a cell and a place that is no cell. It has no
+    /// reading. Takes no memory.
+    pub fn boundary() -> StockMeter
+        ensures kind { result.kind ≡ Kind.Boundary }
+        ensures reading { result.reading ≡ None }
+        ensures pending { result.pending ≡ None }
+    {
+        StockMeter::new(Kind::Boundary)
+    }
+
+    /// A meter of the number of extreme vertices. It has no reading. Takes no memory.
+    pub fn vertices() -> StockMeter
+        ensures kind { result.kind ≡ Kind.Vertices }
+        ensures reading { result.reading ≡ None }
+        ensures pending { result.pending ≡ None }
+    {
+        StockMeter::new(Kind::Vertices)
+    }
 }
 
 impl Meter for StockMeter {
@@ -48,19 +92,28 @@ impl Meter for StockMeter {
         self.kind
     }
 
-    fn begin(&mut self, _alloc: Global, _solid: Rows<'_>) -> Result<(), NoMemory> {
-        Err(NoMemory)
+    fn begin(&mut self, alloc: Global, solid: Rows<'_>) -> Result<(), NoMemory> {
+        let whole = reading_of(self.kind, alloc, solid)?;
+        self.reading = Some(whole);
+        self.pending = None;
+        Ok(())
     }
 
     fn prepare(
         &mut self,
-        _alloc: Global,
-        _before: Rows<'_>,
+        alloc: Global,
+        before: Rows<'_>,
         _gained: Rows<'_>,
         _lost: Rows<'_>,
-        _after: Rows<'_>,
+        after: Rows<'_>,
     ) -> Result<(), NoMemory> {
-        Err(NoMemory)
+        let was = reading_of(self.kind, alloc, before)?;
+        let now = reading_of(self.kind, alloc, after)?;
+        match self.reading {
+            Some(reading) => self.pending = Some(reading + now - was),
+            None => unreachable!(),
+        }
+        Ok(())
     }
 
     fn commit(&mut self) {
@@ -74,7 +127,7 @@ impl Meter for StockMeter {
 
     fn read(&self) -> i128 {
         match self.reading {
-            Some(n) => n as i128,
+            Some(reading) => reading as i128,
             None => unreachable!(),
         }
     }
