@@ -20,8 +20,9 @@ use Rattle.evm_script.specs.declared.files.LoadForm.{LoadForm}
 use Rattle.evm_script.specs.declared.files.SaveForm.{SaveForm}
 use Rattle.evm_script.specs.declared.formula.Formula.{Formula}
 use Rattle.evm_text.proofs.Spaced.{is_plain, words_spaced, no_cr_spaced}
+use Rattle.evm_text.proofs.Decimals.{number_again}
 use Rattle.evm_script.proofs.Spaced.{short_spaced}
-use Rattle.evm_script.proofs.ShapesAgain.{named_plain, one_plain, two_plain, plain_nums, few_nums, name_again, name_number_again, name_two_again, name_numbers_again, zip_again}
+use Rattle.evm_script.proofs.ShapesAgain.{named_plain, one_plain, two_plain, plain_nums, few_nums, name_again, name_number_again, name_two_again, name_numbers_again, zip_again, plain_name, plain_more, counted_plain, number_name_again}
 use Rattle.evm_script.proofs.FormulasAgain.{words_of_formula}
 use Rattle.evm_script.proofs.FilesAgain.{words_of_load, words_of_save}
 
@@ -48,6 +49,10 @@ with_number first name n p h k = read_named first name (signed_decimal n ∷ [])
 -- a first word, a name and a list of numbers
 with_numbers : (first name : List ℕ) (ns : List ℤ) → is_plain first ≡ true → is_name name ≡ true → keeps_nums ns ≡ true → command (spaced (first ∷ name ∷ map signed_decimal ns)) ≡ command_of_words (first ∷ name ∷ map signed_decimal ns)
 with_numbers first name ns p h k = read_named first name (map signed_decimal ns) p h (plain_nums ns k) (omega (arith, few_nums ns k))
+
+-- a first word and the number of a slot
+with_slot : (first : List ℕ) (n : ℤ) → is_plain first ≡ true → in_number_range n ≡ true → command (spaced (first ∷ signed_decimal n ∷ [])) ≡ command_of_words (first ∷ signed_decimal n ∷ [])
+with_slot first n p h = read_spaced (first ∷ signed_decimal n ∷ []) (counted_plain first n [] p h refl) (omega arith)
 
 -- a definition
 definition_again : (name : List ℕ) (f : Formula) → is_name name ≡ true → FormulaKeepsRules f → IsReadAgain (commands.Def name f)
@@ -121,6 +126,14 @@ read_again (commands.Report name) h =
     with_name (codes "report") name refl h ∙ ap (λ (o : Option (List ℕ)). or_syntax (option_map commands.Report o)) (name_again name h)
 read_again (commands.Save name form file) h = save_again name form file h.0 h.1
 read_again commands.List h = read_spaced (codes "list" ∷ []) refl (omega arith)
+read_again (commands.Meter slot name) h =
+    read_spaced (codes "meter" ∷ signed_decimal slot ∷ name ∷ [])
+    (counted_plain (codes "meter") slot (name ∷ []) refl h.0 (plain_more name [] (plain_name name h.1) refl)) (omega arith)
+    ∙ ap (λ (o : Option (ℤ × List ℕ)). or_syntax (option_map (of_pair commands.Meter) o)) (number_name_again slot name h.0 h.1)
+read_again (commands.Read slot) h =
+    with_slot (codes "read") slot refl h ∙ ap (λ (o : Option ℤ). or_syntax (option_map commands.Read o)) (number_again slot h)
+read_again (commands.Unmeter slot) h =
+    with_slot (codes "unmeter") slot refl h ∙ ap (λ (o : Option ℤ). or_syntax (option_map commands.Unmeter o)) (number_again slot h)
 
 -- commands with one text are one command
 pub same_command : (c d : Command) → KeepsRules c → KeepsRules d → printed c ≡ printed d → c ≡ d

@@ -9,7 +9,7 @@ use Rattle.std.proofs.lemmas.Bool.{and_parts, and_from, leb-true, le-leb}
 use Rattle.std.proofs.lemmas.Bool.Decides.{nat_tests}
 use Rattle.evm_text.specs.Numbers.{in_number_range, numbers}
 use Rattle.evm_script.specs.Words.{is_name, is_name_byte, is_small_letter, keeps_nums, nums_max, name_max}
-use Rattle.evm_script.specs.Shapes.{name_of, name_number, name_two_numbers, name_three_numbers, name_numbers, two_names, two_numbers, three_numbers, number_numbers, some_numbers}
+use Rattle.evm_script.specs.Shapes.{name_of, name_number, name_two_numbers, name_three_numbers, name_numbers, two_names, two_numbers, three_numbers, number_name, number_numbers, some_numbers}
 use Rattle.evm_text.proofs.Spaced.{is_plain}
 use Rattle.evm_text.proofs.Decimals.{number_again, numbers_again, plain_number, plain_numbers}
 
@@ -89,3 +89,10 @@ two_names_again a b h k = zip_again a b (name_again a h) (name_again b k)
 
 pub number_numbers_again : (n : ℤ) (ns : List ℤ) → in_number_range n ≡ true → keeps_nums ns ≡ true → number_numbers (signed_decimal n ∷ map signed_decimal ns) ≡ Some (n, ns)
 number_numbers_again n ns h k = zip_again n ns (number_again n h) (some_again ns k)
+
+pub number_name_again : (n : ℤ) (name : List ℕ) → in_number_range n ≡ true → is_name name ≡ true → number_name (signed_decimal n ∷ name ∷ []) ≡ Some (n, name)
+number_name_again n name h k = zip_again n name (number_again n h) (name_again name k)
+
+-- a first word, a number and plain words
+pub counted_plain : (first : List ℕ) (n : ℤ) (ws : List (List ℕ)) → is_plain first ≡ true → in_number_range n ≡ true → list_all is_plain ws ≡ true → list_all is_plain (first ∷ signed_decimal n ∷ ws) ≡ true
+counted_plain first n ws p h k = plain_more first (signed_decimal n ∷ ws) p (plain_more (signed_decimal n) ws (plain_number n h) k)

@@ -68,6 +68,9 @@ command_words (commands.Parts name) = codes "parts" ∷ name ∷ []
 command_words (commands.Report name) = codes "report" ∷ name ∷ []
 command_words (commands.Save name form file) = codes "save" ∷ name ∷ save_words form file
 command_words commands.List = codes "list" ∷ []
+command_words (commands.Meter slot name) = codes "meter" ∷ signed_decimal slot ∷ name ∷ []
+command_words (commands.Read slot) = codes "read" ∷ signed_decimal slot ∷ []
+command_words (commands.Unmeter slot) = codes "unmeter" ∷ signed_decimal slot ∷ []
 
 -- the text of a command, without a line feed
 abbrev pub printed : Command → List ℕ
@@ -118,6 +121,9 @@ KeepsRules (commands.Parts name) = is_name name ≡ true
 KeepsRules (commands.Report name) = is_name name ≡ true
 KeepsRules (commands.Save name form file) = (is_name name ≡ true) × (is_file_name file ≡ true)
 KeepsRules commands.List = Unit {0}
+KeepsRules (commands.Meter slot name) = (in_number_range slot ≡ true) × (is_name name ≡ true)
+KeepsRules (commands.Read slot) = in_number_range slot ≡ true
+KeepsRules (commands.Unmeter slot) = in_number_range slot ≡ true
 
 -- a command's text is a line that is read as this command
 abbrev pub IsReadAgain : Command → Type 0

@@ -69,6 +69,19 @@ two_names (a ∷ []) = None
 two_names (a ∷ b ∷ []) = option_zip (name_of a) (name_of b)
 two_names (a ∷ b ∷ word ∷ rest) = None
 
+-- the shape `N`
+abbrev pub number_alone : List (List ℕ) → Option ℤ
+number_alone [] = None
+number_alone (n ∷ []) = number n
+number_alone (n ∷ word ∷ rest) = None
+
+-- the shape `N NAME`
+abbrev pub number_name : List (List ℕ) → Option (ℤ × List ℕ)
+number_name [] = None
+number_name (n ∷ []) = None
+number_name (n ∷ name ∷ []) = option_zip (number n) (name_of name)
+number_name (n ∷ name ∷ word ∷ rest) = None
+
 -- the shape `N NUMS`
 abbrev pub number_numbers : List (List ℕ) → Option (ℤ × List ℤ)
 number_numbers [] = None

@@ -3,7 +3,7 @@
 ghost use Rattle.std.specs.Prelude.{◌≡◌, ◌≤◌, ◌<◌, ◌^◌, map, IfSome, option_map, neg_ℤ, true, length};
 ghost use Rattle.std.specs.List.{list_all};
 ghost use Rattle.evm_text.specs.Numbers.{number, numbers};
-ghost use Rattle.evm_script.specs.Shapes.{same_bytes, name_alone, name_number, name_two_numbers, name_three_numbers, name_numbers, two_names, two_numbers, three_numbers, number_numbers, some_numbers};
+ghost use Rattle.evm_script.specs.Shapes.{same_bytes, name_alone, name_number, name_two_numbers, name_three_numbers, name_numbers, two_names, two_numbers, three_numbers, number_alone, number_name, number_numbers, some_numbers};
 
 use super::names::Name;
 use super::numbers::{NUMS_MAX, Num, Nums};
@@ -91,6 +91,26 @@ pub(crate) fn two_names(rest: &[&[u8]]) -> Option<(Name, Name)>
 {
     match rest {
         [a, b] => Name::of(a).zip(Name::of(b)),
+        _ => None,
+    }
+}
+
+/// `N`: a number and nothing after it.
+pub(crate) fn only_number(rest: &[&[u8]]) -> Option<Num>
+    ensures { result ≡ number_alone (map (λ w. w.now) rest.now) }
+{
+    match rest {
+        [n] => read_number(n),
+        _ => None,
+    }
+}
+
+/// `N NAME`: a number, a name and nothing after them.
+pub(crate) fn number_then_name(rest: &[&[u8]]) -> Option<(Num, Name)>
+    ensures { result ≡ number_name (map (λ w. w.now) rest.now) }
+{
+    match rest {
+        [n, name] => read_number(n).zip(Name::of(name)),
         _ => None,
     }
 }

@@ -54,6 +54,26 @@ fn reads_each_question(rt: HostRuntime) -> Result<(), Fail> {
 }
 
 #[test]
+fn reads_and_prints_meters(rt: HostRuntime) -> Result<(), Fail> {
+    let name = Name::of(b"a_1").ok_or("name")?;
+    let (slot, below) = (Num::within(7), Num::within(-9_999_999_999));
+    let cases = [
+        ("meter 7 a_1", Command::Meter { slot, name }),
+        ("read 7", Command::Read { slot }),
+        ("read -9999999999", Command::Read { slot: below }),
+        ("unmeter 7", Command::Unmeter { slot }),
+    ];
+    for (line, want) in cases {
+        assert_eq!(rt; read_line(rt.alloc(), line.as_bytes()), Ok(want), "{line}");
+        let text = write_line(rt.alloc(), &want)?;
+        assert_eq!(rt; text.as_slice(), line.as_bytes(), "{line}");
+    }
+    let spread = read_line(rt.alloc(), b"\tmeter  007\ta_1 \r");
+    assert_eq!(rt; spread, Ok(Command::Meter { slot, name }));
+    Ok(())
+}
+
+#[test]
 fn reads_each_formula(rt: HostRuntime) -> Result<(), Fail> {
     let name = Name::of(b"n").ok_or("name")?;
     let a = Name::of(b"a").ok_or("name")?;
@@ -140,6 +160,14 @@ fn refuses_other_lines(rt: HostRuntime) -> Result<(), Fail> {
         "faces a",
         "parts a 1",
         "save a evm f g",
+        "meter a 0",
+        "meter 0",
+        "meter 0 a b",
+        "read",
+        "read 0 0",
+        "read a",
+        "unmeter",
+        "unmeter 00000000000",
     ];
     for line in lines {
         let answer = read_line(rt.alloc(), line.as_bytes());

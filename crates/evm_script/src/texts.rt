@@ -208,8 +208,31 @@ pub(crate) fn put_number_numbers(
     put_numbers(text, nums)
 }
 
+/// Appends a first word, a number and a name.
+pub(crate) fn put_number_name(
+    text: &mut Vec<u8>,
+    first: &[u8],
+    number: &Num,
+    name: &Name,
+) -> Result<(), NoMemory>
+    ensures text { OnOk result (text.new.items
+        ≡ text.old.items ++ spaced (first.now ∷ signed_decimal number.now ∷ name.now ∷ [])) }
+    ensures range { OnOk result (in_number_range number.now ≡ true) }
+    ensures rule { OnOk result (is_name name.now ≡ true) }
+{
+    let bytes = name.bytes();
+    put_first_number(text, first, number)?;
+    text.push(b' ')?;
+    text.extend_from_slice(bytes)?;
+    Ok(())
+}
+
 /// Appends a first word and a number.
-fn put_first_number(text: &mut Vec<u8>, first: &[u8], number: &Num) -> Result<(), NoMemory>
+pub(crate) fn put_first_number(
+    text: &mut Vec<u8>,
+    first: &[u8],
+    number: &Num,
+) -> Result<(), NoMemory>
     ensures text { OnOk result (text.new.items
         ≡ text.old.items ++ spaced (first.now ∷ signed_decimal number.now ∷ [])) }
     ensures range { OnOk result (in_number_range number.now ≡ true) }

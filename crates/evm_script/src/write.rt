@@ -16,8 +16,8 @@ use super::files::{FileName, LoadForm, SaveForm};
 use super::formula::Formula;
 use super::names::Name;
 use super::texts::{
-    put_form_file, put_name, put_name_number, put_name_numbers, put_name_three, put_name_two,
-    put_number_numbers, put_threshold_file, put_two_names, put_word,
+    put_first_number, put_form_file, put_name, put_name_number, put_name_numbers, put_name_three,
+    put_name_two, put_number_name, put_number_numbers, put_threshold_file, put_two_names, put_word,
 };
 use std::alloc::Global;
 
@@ -83,6 +83,9 @@ fn put_command(text: &mut Vec<u8>, command: &Command) -> Result<(), NoMemory>
         Command::Report { name } => put_name(text, b"report", name),
         Command::Save { name, form, file } => put_save(text, name, form, file),
         Command::List => put_word(text, b"list"),
+        Command::Meter { slot, name } => put_number_name(text, b"meter", slot, name),
+        Command::Read { slot } => put_first_number(text, b"read", slot),
+        Command::Unmeter { slot } => put_first_number(text, b"unmeter", slot),
     }
 }
 
