@@ -1,13 +1,13 @@
 -- Slots of meters, as contracts see them.
-use Rattle.std.specs.Prelude.{ℕ, ◌≡◌, Bool, true, false, List, Option, None, Some, bytes_eq, if◌then◌else◌, map}
+use Rattle.std.specs.Prelude.{ℕ, ◌≡◌, Bool, true, false, List, Option, None, Some, bytes_eq, if◌then◌else◌, is_some, map}
 use Rattle.std.specs.List.{list_all, list_any, slice_get}
 use Rattle.evm_cells.specs.Localities.{Measure}
 use Rattle.evm_cells.specs.Booleans.{xor_cells}
 use Rattle.evm_cells.specs.Vertices.{cells}
 use Rattle.evm_rows.specs.Rows.{Vertices}
 use Rattle.evm_meter.specs.Meters.{measured}
-use Rattle.evm_watch.specs.declared.slots.Slot.{Slot}
-use Rattle.evm_watch.specs.declared.slots.Slot.TheVariants as slots
+use Rattle.evm_watch.specs.declared.slot.Slot.{Slot}
+use Rattle.evm_watch.specs.declared.slot.Slot.TheVariants as slots
 
 -- a free meter; one that watches a name, with its reading and its pending reading; or a meter that was given up
 pub data Seen : Type 0 where
@@ -18,8 +18,14 @@ pub data Seen : Type 0 where
 -- a slot, where these are the kind, the reading and the pending reading of a meter
 abbrev pub seen_of : {M : Type 0} → (M → Measure) → (M → Option ℕ) → (M → Option ℕ) → Slot M → Seen
 seen_of kind reading pending (slots.Free m) = Free (kind m)
-seen_of kind reading pending (slots.Watches name m) = Watches (kind m) name (reading m) (pending m)
+seen_of kind reading pending (slots.Watches name m prepared) = Watches (kind m) name (reading m) (pending m)
 seen_of kind reading pending slots.Gone = Gone
+
+-- a meter that watches a name has a reading, and it has a pending reading exactly where the slot says so
+abbrev pub IsKept : {M : Type 0} → (M → Option ℕ) → (M → Option ℕ) → Slot M → Type 0
+IsKept reading pending (slots.Free m) = Unit {0}
+IsKept reading pending (slots.Watches name m prepared) = (is_some (reading m) ≡ true) × (is_some (pending m) ≡ prepared)
+IsKept reading pending slots.Gone = Unit {0}
 
 -- whether a slot watches this name
 abbrev pub seen_watches : List ℕ → Seen → Bool

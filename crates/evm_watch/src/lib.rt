@@ -5,6 +5,8 @@
 //! can fail any more, all readings are committed, and where an edit is refused, they are abandoned.
 #![tactic(auto)]
 
+mod slot;
 mod slots;
 
-pub use slots::{AttachError, Slots};
+pub use slot::AttachError;
+pub use slots::Slots;

@@ -6,32 +6,13 @@ ghost use Rattle.evm_rows.specs.Rows.{Vertices};
 ghost use Rattle.evm_meter.specs.Meters.{measured};
 ghost use Rattle.evm_watch.specs.Slots.{Seen, Free, Gone, seen_watches, seen_reading, seen_is_free, seen_attached, EachReads, seen_prepared, seen_committed, seen_abandoned, IsMoved};
 
+use super::slot::{AttachError, Slot};
 use evm_meter::Meter;
 use evm_rows::{NoMemory, Solid};
 use evm_script::Name;
 use evm_tiles::Tiles;
 use std::alloc::Global;
 use std::marker::Model;
-
-/// A meter, and the name that it watches.
-#[derive(Drop)]
-pub(crate) enum Slot<M: Meter> {
-    /// The meter watches no name.
-    Free(M),
-    /// The meter watches this name.
-    Watches { name: Name, meter: M },
-    /// The meter was given up.
-    Gone,
-}
-
-/// Why no meter was attached.
-#[derive(Clone, Copy, Debug, PartialEq, Eq)]
-pub enum AttachError {
-    /// There is no such slot, or its meter watches a name already or was given up.
-    Slot,
-    /// There was no memory.
-    NoMemory,
-}
 
 /// The meters that were handed in, each in its slot, counted from 0.
 #[derive(Drop)]
@@ -40,12 +21,14 @@ pub struct Slots<M: Meter> {
 }
 
 impl<M: Meter> Model for Slots<M> {
-    ghost use Rattle.std.specs.Prelude.{List, map};
-    ghost use Rattle.evm_watch.specs.Slots.{Seen, seen_of};
+    ghost use Rattle.std.specs.Prelude.{List, map, All};
+    ghost use Rattle.evm_watch.specs.Slots.{Seen, seen_of, IsKept};
 
     ghost Value = { List Seen };
 
     ghost view = { λ s. map (seen_of M.kind M.reading M.pending) s.list.items };
+
+    ghost invariant = { λ s. All (IsKept M.reading M.pending) s.list.items };
 }
 
 impl<M: Meter> Slots<M> {
@@ -55,9 +38,11 @@ impl<M: Meter> Slots<M> {
             → (M.reading m ≡ None) × (M.pending m ≡ None) }
         ensures { IfOk result (λ s. s ≡ map (λ m. Free (M.kind m)) meters.items) }
     {
-        let _ = meters;
-        let _ = alloc;
-        Err(NoMemory)
+        let mut list = Vec::with_capacity(alloc, meters.len())?;
+        for meter in meters {
+            list.push(Slot::Free(meter))?;
+        }
+        Ok(Slots { list })
     }
 
     /// How many slots there are, those that are gone among them.
@@ -71,16 +56,23 @@ impl<M: Meter> Slots<M> {
     pub fn watches(&self, name: &Name) -> bool
         ensures { result ≡ list_any (seen_watches name.now) self.now }
     {
-        let _ = name;
-        unreachable!()
+        for slot in self.list.iter() {
+            if slot.watches(name) {
+                return true;
+            }
+        }
+        false
     }
 
     /// The reading of a slot, or none exactly where it watches no name. Takes no memory.
     pub fn reading(&self, slot: usize) -> Option<i128>
         ensures { result ≡ option_map pos (seen_reading (slice_get self.now slot)) }
     {
-        let _ = slot;
-        None
+        if slot < self.list.len() {
+            self.list[slot].reading()
+        } else {
+            None
+        }
     }
 
     /// The meter of a free slot watches a name from now on, whose solid this is, and answers its reading.
@@ -106,11 +98,10 @@ impl<M: Meter> Slots<M> {
             → IsErrOf result AttachError.Slot }
         ensures err { OnErr result (self.new ≡ self.old) }
     {
-        let _ = alloc;
-        let _ = slot;
-        let _ = name;
-        let _ = solid;
-        Err(AttachError::NoMemory)
+        if self.list.len() <= slot {
+            return Err(AttachError::Slot);
+        }
+        self.list[slot].attach(alloc, name, solid)
     }
 
     /// Gives up the meter of a slot, and answers its last reading: none exactly where the slot watches no name, and then nothing is
@@ -119,8 +110,11 @@ impl<M: Meter> Slots<M> {
         ensures value { result ≡ option_map pos (seen_reading (slice_get self.old slot)) }
         ensures gone { MatchOption result (self.new ≡ self.old) (λ n. self.new ≡ set self.old slot Gone) }
     {
-        let _ = slot;
-        None
+        if slot < self.list.len() {
+            self.list[slot].detach()
+        } else {
+            None
+        }
     }
 
     /// Prepares the change of a name from one solid to another, by the exclusive or of the two, in each slot that watches it. Takes
@@ -150,10 +144,18 @@ impl<M: Meter> Slots<M> {
     /// Each pending reading becomes the reading of its slot. Takes no memory.
     pub fn commit(&mut self)
         ensures { self.new ≡ map seen_committed self.old }
-    {}
+    {
+        for slot in self.list.iter_mut() {
+            slot.commit();
+        }
+    }
 
     /// Forgets each pending reading. Takes no memory.
     pub fn abandon(&mut self)
         ensures { self.new ≡ map seen_abandoned self.old }
-    {}
+    {
+        for slot in self.list.iter_mut() {
+            slot.abandon();
+        }
+    }
 }
