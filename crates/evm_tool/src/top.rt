@@ -62,7 +62,8 @@ fn answer_input<I: Source, O: Sink, S: Shelf, M: Meter>(
 ) -> Status
     requires { (k : ℕ) (m : M) → slice_get meters.items k ≡ Some m
         → (M.reading m ≡ None) × (M.pending m ≡ None) }
-    ensures run { Runs (map (λ m. M.kind m) meters.items) result (I.left input.old) (I.left input.new) (O.written output.old) (O.written output.new)
+    ensures run { Runs (map (λ m. M.kind m) meters.items) result
+        (I.left input.old) (I.left input.new) (O.written output.old) (O.written output.new)
         (shelf_view (S.files shelf.old) (S.faults shelf.old) (S.misses shelf.old))
         (shelf_view (S.files shelf.new) (S.faults shelf.new) (S.misses shelf.new)) }
     ensures words { result ≡ Status.Words → ⊥ }
