@@ -1,2 +1,3 @@
 pub mod Meters
 pub mod Fakes
+pub mod Beside

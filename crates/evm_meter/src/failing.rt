@@ -41,7 +41,13 @@ impl FailingMeter {
     /// A meter of this kind, without a reading. Its calls of `begin` and `prepare` answer want of memory at the numbers of
     /// `failing`, counted from 1 over both. Takes no memory.
     pub fn new(kind: Kind, failing: Vec<usize>) -> FailingMeter
-        ensures { result ≡ record { kind = kind; reading = None; pending = None; failing = failing.items; calls = 0 } }
+        ensures { result ≡ record {
+          kind = kind;
+          reading = None;
+          pending = None;
+          failing = failing.items;
+          calls = 0;
+        } }
     {
         FailingMeter {
             stock: StockMeter::new(kind),
@@ -91,15 +97,15 @@ impl Meter for FailingMeter {
         &mut self,
         alloc: Global,
         before: Rows<'_>,
-        gained: Rows<'_>,
-        lost: Rows<'_>,
+        gain: Rows<'_>,
+        loss: Rows<'_>,
         after: Rows<'_>,
     ) -> Result<(), NoMemory>
         requires near { IsNearChange (measure_named self.old.kind) self.old.reading
             (vertices_of before) (vertices_of after) }
         requires free { self.old.pending ≡ None }
-        requires gained { IsLess (vertices_of after) (vertices_of before) (vertices_of gained) }
-        requires lost { IsLess (vertices_of before) (vertices_of after) (vertices_of lost) }
+        requires gained { IsLess (vertices_of after) (vertices_of before) (vertices_of gain) }
+        requires lost { IsLess (vertices_of before) (vertices_of after) (vertices_of loss) }
         ensures ok { OnOk result (self.new ≡ record self.old {
           pending = moved_by (measure_named self.old.kind) (vertices_of before.entry)
               (vertices_of after.entry) self.old.reading;
@@ -112,7 +118,7 @@ impl Meter for FailingMeter {
         if self.count() {
             return Err(NoMemory);
         }
-        self.stock.prepare(alloc, before, gained, lost, after)
+        self.stock.prepare(alloc, before, gain, loss, after)
     }
 
     fn commit(&mut self)

@@ -13,3 +13,6 @@ mod stock;
 pub use failing::FailingMeter;
 pub use meter::{Kind, Meter};
 pub use stock::StockMeter;
+
+#[cfg(test)]
+mod tests;
