@@ -20,14 +20,14 @@ use Rattle.evm_delta.specs.Hulls.{IsAround}
 
 -- ---- lists, coordinate by coordinate
 
-each_at : (r : ℤ → ℤ → Bool) (p c : List ℤ) → length p ≡ length c → ((i : ℕ) → i < length c → r (coord i p) (coord i c) ≡ true) → each r p c ≡ true
+pub each_at : (r : ℤ → ℤ → Bool) (p c : List ℤ) → length p ≡ length c → ((i : ℕ) → i < length c → r (coord i p) (coord i c) ≡ true) → each r p c ≡ true
 unfolding each
 each_at r [] [] e h = refl
 each_at r [] (z ∷ c) e h = absurd (omega arith)
 each_at r (x ∷ p) [] e h = absurd (omega arith)
 each_at r (x ∷ p) (z ∷ c) e h = and_both (r x z) (each r p c) (h 0 (omega arith)) (each_at r p c (omega arith) (λ i l. h (suc i) (omega arith)))
 
-all_at : (t : ℤ → Bool) (p : List ℤ) → ((i : ℕ) → i < length p → t (coord i p) ≡ true) → list_all t p ≡ true
+pub all_at : (t : ℤ → Bool) (p : List ℤ) → ((i : ℕ) → i < length p → t (coord i p) ≡ true) → list_all t p ≡ true
 all_at t [] h = refl
 all_at t (x ∷ p) h = and_both (t x) (list_all t p) (h 0 (omega arith)) (all_at t p (λ i l. h (suc i) (omega arith)))
 

@@ -26,15 +26,17 @@ fn span(d: Rows<'_>, axis: usize) -> (i32, i32)
     (least, largest)
 }
 
-// The ends of a box on each axis, with numbers behind them that say nothing.
+/// The two ends of a box on each axis, with numbers behind those of the dimension that say nothing.
 #[derive(Drop)]
-pub(crate) struct Ends {
-    pub(crate) lo: [i32; DIM_MAX],
-    pub(crate) hi: [i32; DIM_MAX],
+pub struct Ends {
+    /// The least coordinate on each axis.
+    pub lo: [i32; DIM_MAX],
+    /// The largest coordinate on each axis.
+    pub hi: [i32; DIM_MAX],
 }
 
-/// The least box that has all rows of a change.
-pub(crate) fn hull(d: Rows<'_>) -> Ends
+/// The least box that has all rows of a change; of no rows, ends of points that are no box. Takes no memory.
+pub fn hull(d: Rows<'_>) -> Ends
     ensures around { IsAround (vertices_of d.entry).dim result.lo result.hi (vertices_of d.entry) }
     ensures low { length result.lo ≡ 6 }
     ensures high { length result.hi ≡ 6 }

@@ -1,6 +1,9 @@
 -- Lists that are gone through, and what is seen of each item.
 use Rattle.std.proofs.Common.{◌≡◌, ℕ, zero, suc, ◌+◌, ◌<◌, ◌≤◌, Bool, true, false, ◌||◌, Option, Some, None, List, [], ◌∷◌, ◌++◌, length, map, set, take, drop, get_or, refl, sym, ap, ◌∙◌, arith}
 use Rattle.std.specs.Option.{MatchOption}
+use Rattle.std.specs.Result.{OnErr}
+use Rattle.std.specs.declared.result.Result.{Result}
+use Rattle.std.specs.declared.result.Result.TheVariants.{Ok, Err}
 use Rattle.std.specs.List.{list_any, slice_get}
 use Rattle.std.proofs.lemmas.List.{map-set}
 
@@ -110,3 +113,20 @@ take_whole zero [] zs e = refl
 take_whole zero (x ∷ xs) zs e = absurd (omega arith)
 take_whole (suc n) [] zs e = absurd (omega arith)
 take_whole (suc n) (x ∷ xs) zs e = ap (λ ys. x ∷ ys) (take_whole n xs zs (omega arith))
+
+pub map_twice : {A B C : Type 0} (f : B → C) (g : A → B) (xs : List A) → map f (map g xs) ≡ map (λ x. f (g x)) xs
+map_twice f g [] = refl
+map_twice f g (x ∷ xs) = ap (λ ys. f (g x) ∷ ys) (map_twice f g xs)
+
+-- what a loop has not reached is as it was
+done_same : {B : Type 0} (f : B → B) (i : ℕ) (old : List B) → slice_get (first_done f i old) i ≡ slice_get old i
+done_same f zero old = refl
+done_same f (suc i) [] = refl
+done_same f (suc i) (b ∷ old) = done_same f i old
+
+pub not_reached : {A B : Type 0} (seen : A → B) (f : B → B) (i : ℕ) (xs : List A) (old : List B) (x : A) → i < length xs → map seen xs ≡ first_done f i old → x ≡ get_or xs i x → slice_get old i ≡ Some (seen x)
+not_reached seen f i xs old x l e g = sym (done_same f i old) ∙ ap (λ v. slice_get v i) (sym e) ∙ seen_at seen xs i x l g
+
+pub on_err : {T E P : Type 0} (r : Result T E) → P → OnErr r P
+on_err (Ok x) p = tt
+on_err (Err e) p = p

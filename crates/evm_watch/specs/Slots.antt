@@ -5,7 +5,7 @@ use Rattle.evm_cells.specs.Localities.{Measure}
 use Rattle.evm_cells.specs.Booleans.{xor_cells}
 use Rattle.evm_cells.specs.Vertices.{cells}
 use Rattle.evm_rows.specs.Rows.{Vertices}
-use Rattle.evm_meter.specs.Meters.{measured}
+use Rattle.evm_meter.specs.Meters.{measured, IsNearChange, moved_by}
 use Rattle.evm_watch.specs.declared.slot.Slot.{Slot}
 use Rattle.evm_watch.specs.declared.slot.Slot.TheVariants as slots
 
@@ -63,6 +63,20 @@ SeenReads name a Gone = Unit {0}
 
 abbrev pub EachReads : List ℕ → Vertices → List Seen → Type 0
 EachReads name a slots = (k : ℕ) (s : Seen) → slice_get slots k ≡ Some s → SeenReads name a s
+
+-- where a slot watches this name, its meter can be handed these parts of the solid before and after a change
+abbrev pub CanMove : List ℕ → Vertices → Vertices → Seen → Type 0
+CanMove name before after (Free kind) = Unit {0}
+CanMove name before after (Watches kind other reading pending) =
+    bytes_eq name other ≡ true → IsNearChange kind reading before after × (pending ≡ None)
+CanMove name before after Gone = Unit {0}
+
+-- the slot after these parts were handed to its meter, if it watches this name
+abbrev pub seen_moved : List ℕ → Vertices → Vertices → Seen → Seen
+seen_moved name before after (Free kind) = Free kind
+seen_moved name before after (Watches kind other reading pending) =
+    Watches kind other reading (if bytes_eq name other then moved_by kind before after reading else pending)
+seen_moved name before after Gone = Gone
 
 -- the slot after the measure of these vertices was prepared, if it watches this name
 abbrev pub seen_prepared : List ℕ → Vertices → Seen → Seen

@@ -5,6 +5,7 @@
 //! can fail any more, all readings are committed, and where an edit is refused, they are abandoned.
 #![tactic(auto)]
 
+mod near;
 mod slot;
 mod slots;
 

@@ -1,9 +1,10 @@
 //! One slot.
 
 ghost use Rattle.std.specs.Prelude.{◌≡◌, pos, true, false, None, Some, option_map, MatchOption, OnErr, IfOk, OnOk, IsErrOf};
-ghost use Rattle.evm_meter.specs.Meters.{measured};
-ghost use Rattle.evm_watch.specs.Slots.{Seen, Gone, seen_of, IsKept, seen_watches, seen_reading, seen_is_free, seen_attached, seen_committed, seen_abandoned};
+ghost use Rattle.evm_meter.specs.Meters.{measured, IsLess};
+ghost use Rattle.evm_watch.specs.Slots.{Seen, Gone, seen_of, IsKept, seen_watches, seen_reading, seen_is_free, seen_attached, CanMove, seen_moved, seen_committed, seen_abandoned};
 
+use super::near::Parts;
 use evm_meter::Meter;
 use evm_rows::NoMemory;
 use evm_script::Name;
@@ -125,6 +126,47 @@ impl<M: Meter> Slot<M> {
                 None
             }
         }
+    }
+
+    /// Hands the parts of a change to the meter, if it watches this name. After want of memory nothing is pending there.
+    pub(crate) fn prepare(
+        &mut self,
+        alloc: Global,
+        name: &Name,
+        parts: &Parts,
+    ) -> Result<(), NoMemory>
+        requires kept { IsKept M.reading M.pending self.old }
+        requires near { CanMove name.now parts.now.before parts.now.after
+            (seen_of M.kind M.reading M.pending self.old) }
+        requires gained { IsLess parts.now.after parts.now.before parts.now.gained }
+        requires lost { IsLess parts.now.before parts.now.after parts.now.lost }
+        ensures kept { IsKept M.reading M.pending self.new }
+        ensures ok { OnOk result (seen_of M.kind M.reading M.pending self.new
+            ≡ seen_moved name.now parts.now.before parts.now.after
+            (seen_of M.kind M.reading M.pending self.old)) }
+        ensures err { OnErr result (seen_abandoned (seen_of M.kind M.reading M.pending self.new)
+            ≡ seen_abandoned (seen_of M.kind M.reading M.pending self.old)) }
+    {
+        let Slot::Watches {
+            name: other,
+            meter,
+            prepared,
+        } = self
+        else {
+            return Ok(());
+        };
+        if !name.same(other) {
+            return Ok(());
+        }
+        meter.prepare(
+            alloc,
+            parts.before.rows(),
+            parts.gained.rows(),
+            parts.lost.rows(),
+            parts.after.rows(),
+        )?;
+        *prepared = true;
+        Ok(())
     }
 
     /// The pending reading, if it has one, becomes its reading.

@@ -6,6 +6,7 @@ ghost use Rattle.evm_rows.specs.Rows.{Vertices};
 ghost use Rattle.evm_meter.specs.Meters.{measured};
 ghost use Rattle.evm_watch.specs.Slots.{Seen, Free, Gone, seen_watches, seen_reading, seen_is_free, seen_attached, EachReads, seen_prepared, seen_committed, seen_abandoned, IsMoved};
 
+use super::near::parts_round;
 use super::slot::{AttachError, Slot};
 use evm_meter::Meter;
 use evm_rows::{NoMemory, Solid};
@@ -133,12 +134,16 @@ impl<M: Meter> Slots<M> {
         ensures ok { OnOk result (self.new ≡ map (seen_prepared name.now after.now) self.old) }
         ensures err { OnErr result (map seen_abandoned self.new ≡ map seen_abandoned self.old) }
     {
-        let _ = alloc;
-        let _ = name;
-        let _ = before;
-        let _ = delta;
-        let _ = after;
-        Err(NoMemory)
+        // Only its cells matter here, and they are those of `before` and the change.
+        let _after = after;
+        if !self.watches(name) {
+            return Ok(());
+        }
+        let near = parts_round(alloc, before, delta.rows())?;
+        for index in 0..self.list.len() {
+            self.list[index].prepare(alloc, name, &near)?;
+        }
+        Ok(())
     }
 
     /// Each pending reading becomes the reading of its slot. Takes no memory.
