@@ -1,6 +1,6 @@
 -- A measure moves by what it moves in the parts round a change.
 use Rattle.std.proofs.Common.{◌≡◌, ℕ, zero, suc, ◌+◌, ◌-◌, ◌<◌, Bool, true, false, ◌&&◌, ◌||◌, not, if◌then◌else◌, bytes_eq, List, [], ◌∷◌, map, set, length, get_or, Option, Some, None, ℤ, pos, ◌+ℤ◌, int_le, int_lt, refl, sym, ap, ap₂, ◌∙◌, arith, subst}
-use Rattle.std.specs.List.{list_any, slice_get}
+use Rattle.std.specs.List.{list_any}
 use Rattle.std.proofs.lemmas.Int.{ints as int_facts}
 use Rattle.std.proofs.lemmas.Bool.{false≢true}
 use Rattle.evm_cells.specs.Places.{each, has}

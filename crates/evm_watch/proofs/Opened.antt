@@ -1,17 +1,16 @@
 -- A box that is opened by 1 on every side holds all that is within 1 of what it held.
-use Rattle.std.proofs.Common.{◌≡◌, ℕ, zero, suc, ◌<◌, ◌≤◌, ◌<ℤ◌, ◌≤ℤ◌, Bool, true, false, ◌&&◌, List, [], ◌∷◌, length, take, ℤ, pos, neg_ℤ, ◌+ℤ◌, ◌-ℤ◌, int_le, int_lt, get_or, refl, sym, ap, ap₂, ◌∙◌, arith, subst, slice_set, ◌+◌, ◌≢◌, below_more}
-use Rattle.std.specs.List.{list_all}
+use Rattle.std.proofs.Common.{◌≡◌, ℕ, zero, suc, ◌<◌, ◌≤◌, ◌<ℤ◌, ◌≤ℤ◌, Bool, true, ◌&&◌, List, [], ◌∷◌, length, take, ℤ, pos, neg_ℤ, ◌+ℤ◌, int_le, int_lt, sym, ap, ap₂, ◌∙◌, arith, subst, slice_set, ◌+◌, ◌≢◌, below_more}
 use Rattle.std.proofs.lemmas.Int.{ints as int_facts}
 use Rattle.std.proofs.lemmas.Bool.{false≢true}
 use Rattle.std.proofs.lemmas.List.{get_or-set_other, get_or-set_same}
-use Rattle.evm_cells.specs.Places.{each, has}
-use Rattle.evm_cells.specs.Limits.{limit, is_point, is_point_coord, is_cell, is_cell_coord, IsCellSet}
+use Rattle.evm_cells.specs.Places.{each}
+use Rattle.evm_cells.specs.Limits.{limit, is_point, is_point_coord, is_cell, is_cell_coord}
 use Rattle.evm_cells.specs.Boxes.{is_box}
 use Rattle.evm_cells.specs.Vertices.{cells, IsVertexList}
 use Rattle.evm_cells.specs.Localities.{close, near}
 use Rattle.evm_cells.proofs.Xor.{and_first, and_second, and_both}
-use Rattle.evm_cells.proofs.Coords.{le_is, le_yes, lt_is, lt_yes, cell_is, point_is, point_yes, limit-some}
-use Rattle.evm_cells.proofs.Universe.{point_from, cell_parts, member_passes, cell_set-cells}
+use Rattle.evm_cells.proofs.Coords.{le_is, le_yes, lt_is, lt_yes, cell_is, point_is, point_yes}
+use Rattle.evm_cells.proofs.Universe.{point_from, cell_parts}
 use Rattle.evm_cells.proofs.Slices.{coord, all-coord}
 use Rattle.evm_rows.specs.Rows.{Vertices}
 use Rattle.evm_tiles.proofs.Planes.{long}

@@ -1,6 +1,6 @@
 -- Slots of meters, as contracts see them.
-use Rattle.std.specs.Prelude.{ℕ, ◌≡◌, Bool, true, false, List, Option, None, Some, bytes_eq, if◌then◌else◌, is_some, map}
-use Rattle.std.specs.List.{list_all, list_any, slice_get}
+use Rattle.std.specs.Prelude.{ℕ, ◌≡◌, Bool, true, false, List, Option, None, Some, bytes_eq, if◌then◌else◌, is_some}
+use Rattle.std.specs.List.{slice_get}
 use Rattle.evm_cells.specs.Localities.{Measure}
 use Rattle.evm_cells.specs.Booleans.{xor_cells}
 use Rattle.evm_cells.specs.Vertices.{cells}

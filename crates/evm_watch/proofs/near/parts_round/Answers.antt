@@ -1,4 +1,4 @@
-use Rattle.std.proofs.Common.{◌≡◌, ◌-◌, ℕ, List, ℤ, take, sym, ap, ap₂, ◌∙◌, subst}
+use Rattle.std.proofs.Common.{ℕ, List, ℤ, take, sym, ap, ap₂, ◌∙◌, subst}
 use Rattle.evm_cells.specs.Booleans.{xor_cells, sub_cells}
 use Rattle.evm_cells.specs.Vertices.{cells}
 use Rattle.evm_rows.specs.Rows.{Vertices}

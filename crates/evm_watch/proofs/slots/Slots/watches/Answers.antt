@@ -1,4 +1,4 @@
-use Rattle.std.proofs.Common.{Bool, true, sym, ap, ◌∙◌, arith}
+use Rattle.std.proofs.Common.{sym, ap, ◌∙◌, arith}
 use Rattle.std.specs.List.{list_any}
 use Rattle.evm_watch.specs.Slots.{seen_of, seen_watches}
 use Rattle.evm_watch.proofs.Lists.{any_map, any_hit, any_end}
