@@ -13,7 +13,7 @@ use std::marker::Model;
 
 /// A meter that reads as [`StockMeter`] does, and answers want of memory at stated calls.
 ///
-/// Its calls of `begin` and `prepare` are counted together from 1, up to the last value of a 64-bit counter. A call answers
+/// Its calls of `begin` and `prepare` are counted together from 0, up to the last value of a 64-bit counter. A call answers
 /// [`NoMemory`] where its number is one of those that were named at the start, and else only where there is no memory. It takes
 /// the memory of a [`StockMeter`].
 #[derive(Drop)]
@@ -39,7 +39,7 @@ impl Model for FailingMeter {
 
 impl FailingMeter {
     /// A meter of this kind, without a reading. Its calls of `begin` and `prepare` answer want of memory at the numbers of
-    /// `failing`, counted from 1 over both. Takes no memory.
+    /// `failing`, counted from 0 over both. Takes no memory.
     pub fn new(kind: Kind, failing: Vec<usize>) -> FailingMeter
         ensures { result ≡ record {
           kind = kind;
@@ -58,11 +58,12 @@ impl FailingMeter {
 
     // Counts a call, and answers whether it is to fail.
     fn count(&mut self) -> bool
-        ensures fails { IsTrue result ↔ Contains self.old.failing (counted self.old.calls) }
+        ensures fails { IsTrue result ↔ Contains self.old.failing self.old.calls }
         ensures after { self.new ≡ record self.old { calls = counted self.old.calls } }
     {
-        self.number = self.number.saturating_add(1);
-        self.refused.contains(&self.number)
+        let number = self.number;
+        self.number = number.saturating_add(1);
+        self.refused.contains(&number)
     }
 }
 
@@ -85,7 +86,7 @@ impl Meter for FailingMeter {
         }) }
         ensures err { OnErr result (self.new ≡ record self.old { calls = counted self.old.calls }) }
         // It fails where the number of the call says so.
-        ensures fails { Contains self.old.failing (counted self.old.calls) → IsErr result }
+        ensures fails { Contains self.old.failing self.old.calls → IsErr result }
     {
         if self.count() {
             return Err(NoMemory);
@@ -113,7 +114,7 @@ impl Meter for FailingMeter {
         }) }
         ensures err { OnErr result (self.new ≡ record self.old { calls = counted self.old.calls }) }
         // It fails where the number of the call says so.
-        ensures fails { Contains self.old.failing (counted self.old.calls) → IsErr result }
+        ensures fails { Contains self.old.failing self.old.calls → IsErr result }
     {
         if self.count() {
             return Err(NoMemory);

@@ -79,10 +79,10 @@ fn stock_meters_follow(rt: HostRuntime) {
 #[test]
 fn failing_meters_fail_at_their_calls(rt: HostRuntime) {
     let step = cell_beside(rt.alloc()).expect(&rt, "memory");
-    let failing = vec![in rt.alloc(); 2, 5].expect(&rt, "memory");
+    let failing = vec![in rt.alloc(); 1, 4].expect(&rt, "memory");
     let mut meter = FailingMeter::new(Kind::Content, failing);
     assert_eq!(rt; meter.kind(), Kind::Content);
-    // The calls 1 and 2, of which the second fails; then 3, 4 and 5, of which the last fails; then 6 to 8.
+    // The calls 0 and 1, of which the second fails; then 2, 3 and 4, of which the last fails; then 5 to 7.
     assert_eq!(rt; follow(rt.alloc(), &mut meter, &step), Err(NoMemory));
     assert_eq!(rt; follow(rt.alloc(), &mut meter, &step), Err(NoMemory));
     assert_eq!(rt; follow(rt.alloc(), &mut meter, &step), Ok((4, 4, 5)));
