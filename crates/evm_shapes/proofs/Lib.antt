@@ -4,6 +4,7 @@ pub mod Shaped
 pub mod Sliced
 pub mod Shifted
 pub mod Lone
+pub mod Packed
 pub mod Clipped
 pub mod Missed
 pub mod Closing

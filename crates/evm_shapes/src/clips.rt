@@ -216,7 +216,8 @@ fn rows_inside(alloc: Global, a: Rows<'_>, lo: &[i32], hi: &[i32]) -> Result<Vec
 
 /// The cells in the box from `lo` up to, but not at, `hi` on each axis, which has a length on each axis and ends within the
 /// limits. Its rows are the rows of the solid, each coordinate moved into the box, that then stand an odd number of times.
-/// Takes memory for the rows three times at most, for references to them, and for the answer. The one error is want of memory.
+/// Takes memory for the rows three times at most, for keys of them or references to them, and for the answer. The one error is want
+/// of memory.
 pub fn clip(alloc: Global, a: Rows<'_>, lo: &[i32], hi: &[i32]) -> Result<Solid, NoMemory>
     requires { is_box (vertices_of a).dim lo.now hi.now ≡ true }
     ensures dim { IfOk result (λ s. s.dim ≡ (vertices_of a.entry).dim) }

@@ -2,6 +2,7 @@
 #![tactic(auto)]
 
 mod clips;
+mod keys;
 mod moves;
 mod order;
 mod prisms;
