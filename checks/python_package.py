@@ -128,8 +128,9 @@ def names():
             tower = tower | walls
         assert tower.content == 20 and len(scene.names()) == 404
         tower = None
-        for name in ("copy", floor):
-            scene.drop(name)
+        scene.drop("copy")
+        scene.drop(floor)
+        floor = None
         assert [name.name for name in scene.names()] == ["walls"] and "floor" not in scene
 
 
