@@ -9,3 +9,4 @@ pub mod Clipped
 pub mod Missed
 pub mod Closing
 pub mod United
+pub mod Windowed

@@ -4,13 +4,13 @@ ghost use Rattle.std.specs.List.{All};
 ghost use Rattle.evm_rows.specs.Rows.{rows_of, flat_of};
 ghost use Rattle.evm_cells.specs.Windows.{IsReduced};
 ghost use Rattle.evm_shapes.specs.Order.{starts_pair, unpaired, AreLone};
-ghost use Rattle.evm_shapes.specs.Keys.{number_of, unpacked, room};
+ghost use Rattle.evm_shapes.specs.Keys.{number_of, unpacked, room, IsPut};
 
 use evm_rows::split_row;
 use std::alloc::{AllocError, Global};
 
 // The word of 32 bits that stands for a number in a key: its sign bit is flipped, so that words are ordered as numbers are.
-fn word_of(x: i32) -> u128
+pub(crate) fn word_of(x: i32) -> u128
     ensures small { result < 2 ^ 32 }
     ensures number { number_of result ≡ x }
 {
@@ -30,6 +30,19 @@ fn key_of(row: &[i32]) -> u128
     key
 }
 
+// Adds a key, or takes the last away where that is the same.
+pub(crate) fn put(keys: &mut Vec<u128>, key: u128) -> Result<(), AllocError>
+    ensures { OnOk result (IsPut keys.old.items key keys.new.items) }
+{
+    let count = keys.len();
+    if 0 < count && keys[count - 1] == key {
+        keys.truncate(count - 1);
+    } else {
+        keys.push(key)?;
+    }
+    Ok(())
+}
+
 // The keys of the rows, where a row that equals the last one that is left takes that away, so that few are sorted.
 fn lone_keys(alloc: Global, flat: &[i32], width: usize) -> Result<Vec<u128>, AllocError>
     requires some { 0 < width }
@@ -43,13 +56,7 @@ fn lone_keys(alloc: Global, flat: &[i32], width: usize) -> Result<Vec<u128>, All
     let mut left = flat;
     while left.len() != 0 {
         let (row, rest) = split_row(left, width, 0);
-        let key = key_of(row);
-        let count = keys.len();
-        if 0 < count && keys[count - 1] == key {
-            keys.truncate(count - 1);
-        } else {
-            keys.push(key)?;
-        }
+        put(&mut keys, key_of(row))?;
         left = rest;
     }
     Ok(keys)
@@ -106,6 +113,25 @@ fn append_unpaired(out: &mut Vec<i32>, keys: &[u128], width: usize) -> Result<()
     Ok(())
 }
 
+/// The rows of the keys that stand there an odd number of times, ascending. Takes memory for the answer.
+pub(crate) fn rows_of_keys(
+    alloc: Global,
+    mut keys: Vec<u128>,
+    width: usize,
+) -> Result<Vec<i32>, AllocError>
+    requires some { 0 < width }
+    requires narrow { width ≤ 4 }
+    requires room { All (λ k. k < room width) keys.items }
+    ensures whole { IfOk result (λ v. length v.items % width ≡ 0) }
+    ensures rows { IfOk result
+        (λ v. IsReduced width (map (unpacked width) keys.items) (rows_of v.items width 0)) }
+{
+    keys.sort_unstable();
+    let mut out = Vec::with_capacity(alloc, keys.len().saturating_mul(width))?;
+    append_unpaired(&mut out, keys.as_slice(), width)?;
+    Ok(out)
+}
+
 /// The rows of `flat`, each of `width` numbers, at most four, that occur an odd number of times, ascending. Takes memory for 16 bytes
 /// a row, and for the answer. The one error is want of memory.
 pub(crate) fn reduced_by_keys(
@@ -120,9 +146,7 @@ pub(crate) fn reduced_by_keys(
     ensures rows { IfOk result
         (λ v. IsReduced width (rows_of flat.now width 0) (rows_of v.items width 0)) }
 {
-    let mut keys = lone_keys(alloc, flat, width)?;
-    keys.sort_unstable();
-    let mut out = Vec::with_capacity(alloc, keys.len().saturating_mul(width))?;
-    append_unpaired(&mut out, keys.as_slice(), width)?;
-    Ok(out)
+    let keys = lone_keys(alloc, flat, width)?;
+    let rows = rows_of_keys(alloc, keys, width)?;
+    Ok(rows)
 }

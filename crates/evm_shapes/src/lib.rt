@@ -2,6 +2,7 @@
 #![tactic(auto)]
 
 mod clips;
+mod inside;
 mod keys;
 mod moves;
 mod order;
