@@ -29,5 +29,6 @@ IsPut ks k js = (js ≡ ks ++ k ∷ []) ⊎ (ks ≡ js ++ k ∷ [])
 -- the flag tells only where these are all rows of a
 pub record IsLowKeys (lo hi : List ℤ) (a : Vertices) (ks : List ℕ) (all : Bool) : Type 0 where
   pub room : All (λ k. k < room a.dim) ks
-  pub lone : AreLone a.dim (map (clamped lo hi) (low_rows (get_or hi 0 (pos 0)) a.rows)) (map (unpacked a.dim) ks)
+  pub lone : AreLone a.dim (map (clamped lo hi) (low_rows (get_or hi 0 (pos 0)) a.rows))
+      (map (unpacked a.dim) ks)
   pub whole : all ≡ true → low_rows (get_or hi 0 (pos 0)) a.rows ≡ a.rows
