@@ -61,7 +61,7 @@ def check_links(tally: Tally):
         folder = (TOP / name).parent
         for link in re.findall(r"\]\(([^)#:\s]+)(?:#[^)]*)?\)", text):
             tally.count((folder / link).exists(), f"{name}: the link to {link} leads nowhere")
-        for path in re.findall(r"`((?:docs|checks|bench|examples|crates|\.ci)/[\w./-]*)`", text):
+        for path in re.findall(r"`((?:docs|checks|bench|examples|crates|python|\.ci)/[\w./-]*)`", text):
             tally.count((TOP / path).exists(), f"{name}: there is no {path}")
 
 
@@ -78,7 +78,7 @@ def is_known(span: str, known: set[str]) -> bool:
         return True
     if "/" in head or re.search(r"\.(md|rt|antt|py|txt|evm)$", head):
         path = head.replace("MODULE", "*").removeprefix("./").rstrip("/")
-        return any(True for folder in ("", "checks/", "crates/*/") for _ in TOP.glob(folder + path))
+        return any(True for folder in ("", "checks/", "crates/*/", "python/", "python/*/") for _ in TOP.glob(folder + path))
     return not re.fullmatch(rf"{NAME}(::{NAME})*", head) or all(part in known for part in head.split("::"))
 
 

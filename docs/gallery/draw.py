@@ -158,20 +158,26 @@ def panel(picture, place, width, height, across, down):
 
 
 def scan(said, _files):
+    sections = [[rows(said[f"section {name} {cut}"]) for name in ("soft", "core")] for cut in ("3 12", "1 20")]
+    return scan_of(sections, *(int(number(said[question])) for question in ("content body", "content core", "boundary core")))
+
+
+def scan_of(sections, body, core, surface):
+    """The picture of a scan: of each of two sections the vertices of the soft part and of the core; then the contents, and the surface of the core."""
     picture = Picture(820, 560, "A section through a scan, and one across it")
     soft, dense = {"fill": SAND, "stroke": INK, "stroke_width": 0.8}, {"fill": RED, "stroke": INK, "stroke_width": 0.8}
     first, second = (lambda x, y: (70 + 10 * x, 100 + 10 * y)), (lambda y, z: (470 + 10 * y, 100 + 10 * z))
-    for place, height, cut, names in ((first, 32, "3 12", "xy"), (second, 24, "1 20", "yz")):
+    for place, height, names, (around, within) in zip((first, second), (32, 24), ("xy", "yz"), sections):
         panel(picture, place, 32, height, *names)
-        picture.polygons(loops(rows(said[f"section soft {cut}"])), place, **soft)
-        picture.polygons(loops(rows(said[f"section core {cut}"])), place, **dense)
+        picture.polygons(loops(around), place, **soft)
+        picture.polygons(loops(within), place, **dense)
     picture.segments([((20.5, -0.4), (20.5, 32.4))], first, stroke=BLUE, stroke_width=2, stroke_dasharray="6 4")
     picture.segments([((-0.4, 12.5), (32.4, 12.5))], second, stroke=BLUE, stroke_width=2, stroke_dasharray="6 4")
     picture.text(70, 448, "slice z = 12 of the stack")
     picture.text(470, 368, "across all slices, at x = 20")
     picture.legend(70, 482, [
-        ("box", dense, f'samples of at least 150: {number(said["content core"])} cells in all, surface {number(said["boundary core"])}'),
-        ("box", soft, f'samples of 90 to 149: {int(number(said["content body"])) - int(number(said["content core"]))} cells in all'),
+        ("box", dense, f"samples of at least 150: {core} cells in all, surface {surface}"),
+        ("box", soft, f"samples of 90 to 149: {body - core} cells in all"),
     ])
     picture.segments([((0, 0), (18, 0))], lambda x, y: (70 + x, 530), stroke=BLUE, stroke_width=2, stroke_dasharray="6 4")
     picture.text(98, 535, "where the other section cuts")

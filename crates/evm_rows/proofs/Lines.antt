@@ -2,10 +2,8 @@
 use Rattle.std.proofs.Common.{◌≡◌, ℕ, zero, suc, ◌+◌, ◌-◌, ◌/◌, ◌%◌, ◌<◌, ◌≤◌, Bool, true, false, not, ◌&&◌, List, [], ◌∷◌, ◌++◌, length, take, drop, map, count_by, ℤ, int_eq, int_lt, refl, sym, ap, ap₂, ◌∙◌, subst, arith, ⊎_elim, ◌⊎◌, length-drop, length-append, take-add}
 use Rattle.std.specs.List.{list_all}
 use Rattle.std.specs.Bool.{MatchBool}
-use Rattle.std.specs.List.Sorted.{IsPermutation}
 use Rattle.std.proofs.lemmas.List.{take-append-drop, take_at, drop_at, take-append-le, drop-append-le, take_all, drop_all, length-take-le}
 use Rattle.std.proofs.lemmas.Bool.{or_cases, false≢true, true≢false}
-use denote.Ref.{Bor}
 use Rattle.evm_cells.specs.Places.{same, each, without, before, ascending}
 use Rattle.evm_cells.specs.Booleans.{xor}
 use Rattle.evm_cells.specs.Vertices.{odd}
@@ -17,11 +15,11 @@ use Rattle.evm_cells.proofs.Places.{strict_places}
 use Rattle.evm_cells.proofs.Coords.{strict_ints, eq_is}
 use Rattle.evm_rows.specs.Rows.{rows_after, rows_of}
 use Rattle.evm_rows.specs.Check.{IsEvenOn, HasOddLine}
-use Rattle.evm_rows.specs.Groups.{HasOddPlace, IsPaired, IsFrontGroup, head_of, targets}
+use Rattle.evm_rows.specs.Groups.{HasOddPlace, IsPaired, IsFrontGroup, head_of}
 use Rattle.evm_rows.proofs.RowsLaws.{rows_of-cons, rows_of-nil, rows_of-none, whole-first, whole-rest}
 use Rattle.evm_rows.proofs.RowsOrder.{Wide, rows_of-wide}
 use Rattle.evm_rows.proofs.RowsPlaces.{length-rows_of, quotient}
-use Rattle.evm_rows.proofs.Pairs.{asc_parts, not_true, not_false, count_of, count_sorted}
+use Rattle.evm_rows.proofs.Pairs.{asc_parts, not_true, not_false, count_of}
 
 -- ---- rows of parts of a flat list
 
@@ -273,17 +271,6 @@ number_tells flat w s wide whole e =
     let less : w - 0 ≡ w = omega arith in
     let all : Wide w (rows_of flat w 0) = subst (λ (m : ℕ). Wide m (rows_of flat w 0)) less (rows_of-wide flat w 0 wide whole) in
     rw (e, count) (places_told (length (rows_of flat w 0)) (rows_of flat w w) (λ q. ap (xsum (λ s. same s q)) (rows_of-skip flat w w) ∙ empty_places w (rows_of flat w 0) q all))
-
--- places in another order
-pub odd_sorted : (K : List (List ℤ)) (bs cs : List (Bor (List ℤ))) → targets bs ≡ K → IsPermutation bs cs → HasOddPlace (targets cs) → HasOddPlace K
-odd_sorted K bs cs e p o = let (q, t) = o in (q, ap (λ rs. odd (count_by (λ s. same s q) rs)) (sym e) ∙ sym (count_sorted bs cs q p) ∙ t)
-
-pub paired_sorted : (K : List (List ℤ)) (bs cs : List (Bor (List ℤ))) → targets bs ≡ K → IsPermutation bs cs → IsPaired (targets cs) → IsPaired K
-paired_sorted K bs cs e p o = λ q. ap (λ rs. odd (count_by (λ s. same s q) rs)) (sym e) ∙ sym (count_sorted bs cs q p) ∙ o q
-
-pub told_sorted : (b : Bool) (K : List (List ℤ)) (bs cs : List (Bor (List ℤ))) → targets bs ≡ K → IsPermutation bs cs → MatchBool b (HasOddPlace (targets cs)) (IsPaired (targets cs)) → MatchBool b (HasOddPlace K) (IsPaired K)
-told_sorted true K bs cs e p o = odd_sorted K bs cs e p o
-told_sorted false K bs cs e p o = paired_sorted K bs cs e p o
 
 -- ---- what the loop over the groups takes
 

@@ -1,7 +1,7 @@
 -- Rows that share their first coordinates, and places that occur an odd number of times.
 use Rattle.std.specs.Prelude.{◌≡◌, ℕ, Bool, true, false, not, ◌&&◌, List, [], ◌∷◌, ◌++◌, map, take, length, get_or, count_by, ℤ}
 use Rattle.std.specs.List.{list_all}
-use Rattle.evm_cells.specs.Places.{same, before}
+use Rattle.evm_cells.specs.Places.{same, before, has, ascending}
 use Rattle.evm_cells.specs.Vertices.{odd}
 use denote.Ref.{Bor}
 
@@ -26,6 +26,11 @@ steady (x ∷ xs) = reaches x xs && steady xs
 -- what the references in a list point to
 abbrev pub targets : List (Bor (List ℤ)) → List (List ℤ)
 targets bs = map (λ b. b.now) bs
+
+-- O are the places that occur an odd number of times in K, each once, ascending
+pub record IsOddPart (K O : List (List ℤ)) : Type 0 where
+  pub rises : ascending O ≡ true
+  pub members : (q : List ℤ) → has O q ≡ odd (count_by (λ s. same s q) K)
 
 -- the first i numbers of the first row
 abbrev pub head_of : ℕ → List (List ℤ) → List ℤ

@@ -1,16 +1,16 @@
 // The test whether flat numbers are the rows of a vertex list.
-ghost use Rattle.std.specs.Prelude.{◌≡◌, ℕ, ◌+◌, ◌%◌, ◌<◌, ◌≤◌, ◌⊎◌, true, length, IfOk, IfErr, IsOk, IsErrOf, MatchBool, MatchOption};
+ghost use Rattle.std.specs.Prelude.{◌≡◌, ℕ, ◌++◌, ◌-◌, ◌%◌, ◌<◌, ◌≤◌, ◌⊎◌, true, length, IfOk, IfErr, IsOk, IsErrOf, MatchBool, MatchOption};
 ghost use Rattle.std.specs.List.{list_all};
 ghost use Rattle.evm_cells.specs.Places.{same, before, ascending};
 ghost use Rattle.evm_cells.specs.Limits.{is_point};
 ghost use Rattle.evm_cells.specs.Vertices.{IsEven, IsVertexList};
-ghost use Rattle.evm_rows.specs.Rows.{rows_of};
+ghost use Rattle.evm_rows.specs.Rows.{rows_of, flat_of, merge_xor};
 ghost use Rattle.evm_rows.specs.Check.{IsEvenOn, HasOddLine, IsFirstOut, IsFirstFall, IsLeastOdd, IsRefusal};
-ghost use Rattle.evm_rows.specs.Groups.{HasOddPlace, IsPaired, IsFrontGroup, steady, targets};
+ghost use Rattle.evm_rows.specs.Groups.{HasOddPlace, IsOddPart, IsPaired, IsFrontGroup};
 ghost use Rattle.evm_rows.specs.declared.check.RowError.{RowError};
 ghost use Rattle.evm_rows.specs.declared.check.RowError.TheVariants.{NoMemory};
 
-use crate::merge::split_row;
+use crate::merge::{extend_by_row, extend_by_rows, row_order, split_row};
 use crate::solid::{Solid, limit};
 use std::alloc::{AllocError, AllocFailed, Global};
 use std::cmp::Ordering;
@@ -94,21 +94,21 @@ fn first_outside(flat: &[i32], width: usize) -> Option<usize>
     None
 }
 
-// The first row that is not greater than the row before it.
-fn first_unordered(flat: &[i32], width: usize) -> Option<usize>
-    requires some { 0 < width }
+// The first row that is not greater than the row before it, of rows without their first `skip` numbers.
+fn first_unordered(flat: &[i32], width: usize, skip: usize) -> Option<usize>
+    requires left { skip < width }
     requires narrow { width ≤ 6 }
     requires whole { length flat.now % width ≡ 0 }
-    ensures { MatchOption result (ascending (rows_of flat.now width 0) ≡ true)
-        (IsFirstFall (rows_of flat.now width 0)) }
+    ensures { MatchOption result (ascending (rows_of flat.now width skip) ≡ true)
+        (IsFirstFall (rows_of flat.now width skip)) }
 {
     if flat.len() == 0 {
         return None;
     }
-    let (mut last, mut later) = split_row(flat, width, 0);
+    let (mut last, mut later) = split_row(flat, width, skip);
     let mut number = 1;
     while later.len() != 0 {
-        let (row, rest) = split_row(later, width, 0);
+        let (row, rest) = split_row(later, width, skip);
         if !comes_before(last, row) {
             return Some(number);
         }
@@ -148,41 +148,109 @@ fn front_group(flat: &[i32], width: usize, front: usize) -> (&[i32], &[i32])
     (group, later)
 }
 
-// The rows of flat numbers, each without its first `skip` numbers, as slices.
-fn row_slices(
+// The two halves of rows. Of an odd number of rows the second has one more.
+fn halves(flat: &[i32], width: usize) -> (&[i32], &[i32])
+    requires some { 0 < width }
+    requires several { width < length flat.now }
+    requires whole { length flat.now % width ≡ 0 }
+    ensures both { flat.now ≡ result.0.now ++ result.1.now }
+    ensures first_whole { length result.0.now % width ≡ 0 }
+    ensures second_whole { length result.1.now % width ≡ 0 }
+    ensures first_shorter { length result.0.now < length flat.now }
+    ensures second_shorter { length result.1.now < length flat.now }
+{
+    flat.split_at(flat.len() / width / 2 * width)
+}
+
+// The rows without their first `skip` numbers, one after another.
+fn rests(alloc: Global, flat: &[i32], width: usize, skip: usize) -> Result<Vec<i32>, AllocError>
+    requires left { skip < width }
+    requires narrow { width ≤ 6 }
+    requires whole { length flat.now % width ≡ 0 }
+    ensures { IfOk result (λ v. v.items ≡ flat_of (rows_of flat.now width skip)) }
+{
+    let mut out = Vec::with_capacity(alloc, flat.len() / width * (width - skip))?;
+    extend_by_rows(&mut out, None, flat, width, skip)?;
+    Ok(out)
+}
+
+// The rows that just one of two ascending lists has, by one merge.
+#[inline(always)]
+fn merged(alloc: Global, a: &[i32], b: &[i32], width: usize) -> Result<Vec<i32>, AllocError>
+    requires some { 0 < width }
+    requires narrow { width ≤ 6 }
+    requires a_whole { length a.now % width ≡ 0 }
+    requires b_whole { length b.now % width ≡ 0 }
+    ensures { IfOk result (λ v. v.items
+        ≡ flat_of (merge_xor (rows_of a.now width 0) (rows_of b.now width 0))) }
+{
+    let mut out = Vec::with_capacity(alloc, a.len().saturating_add(b.len()))?;
+    let mut first = a;
+    let mut second = b;
+    while first.len() != 0 && second.len() != 0 {
+        let (x, after_x) = split_row(first, width, 0);
+        let (y, after_y) = split_row(second, width, 0);
+        match row_order(x, y) {
+            Ordering::Less => {
+                extend_by_row(&mut out, None, x)?;
+                first = after_x;
+            }
+            Ordering::Equal => {
+                first = after_x;
+                second = after_y;
+            }
+            Ordering::Greater => {
+                extend_by_row(&mut out, None, y)?;
+                second = after_y;
+            }
+        }
+    }
+    out.extend_from_slice(first)?;
+    out.extend_from_slice(second)?;
+    Ok(out)
+}
+
+// As `merged`, compiled apart for rows of 1 to 4 numbers: there a row is compared and copied with no call.
+fn merged_rows(alloc: Global, a: &[i32], b: &[i32], width: usize) -> Result<Vec<i32>, AllocError>
+    requires some { 0 < width }
+    requires narrow { width ≤ 6 }
+    requires a_whole { length a.now % width ≡ 0 }
+    requires b_whole { length b.now % width ≡ 0 }
+    ensures { IfOk result (λ v. v.items
+        ≡ flat_of (merge_xor (rows_of a.now width 0) (rows_of b.now width 0))) }
+{
+    match width {
+        1 => merged(alloc, a, b, 1),
+        2 => merged(alloc, a, b, 2),
+        3 => merged(alloc, a, b, 3),
+        4 => merged(alloc, a, b, 4),
+        _ => merged(alloc, a, b, width),
+    }
+}
+
+// The places that occur an odd number of times among the rows without their first `skip` numbers, ascending. Rows that
+// do not ascend are halved, and the places of the halves merged, where equal ones cancel: rows of a solid mostly do so
+// at once, since one couplet's rows are much like the next one's.
+fn odd_places(
     alloc: Global,
     flat: &[i32],
     width: usize,
     skip: usize,
-) -> Result<Vec<&[i32]>, AllocError>
+) -> Result<Vec<i32>, AllocError>
     requires left { skip < width }
     requires narrow { width ≤ 6 }
     requires whole { length flat.now % width ≡ 0 }
-    ensures { IfOk result (λ v. targets v.items ≡ rows_of flat.now width skip) }
+    ensures whole { IfOk result (λ v. length v.items % (width - skip) ≡ 0) }
+    ensures odd { IfOk result
+        (λ v. IsOddPart (rows_of flat.now width skip) (rows_of v.items (width - skip) 0)) }
 {
-    let mut rows = Vec::with_capacity(alloc, flat.len() / width)?;
-    let mut later = flat;
-    while later.len() != 0 {
-        let (row, rest) = split_row(later, width, skip);
-        rows.push(row)?;
-        later = rest;
-    }
-    Ok(rows)
-}
-
-// Whether a place occurs an odd number of times among places that do not fall.
-fn has_lone(places: &[&[i32]]) -> bool
-    requires { steady (targets places.now) ≡ true }
-    ensures { MatchBool result (HasOddPlace (targets places.now)) (IsPaired (targets places.now)) }
-{
-    let mut i = 0;
-    while i + 1 < places.len() {
-        if !are_same(places[i], places[i + 1]) {
-            return true;
-        }
-        i += 2;
-    }
-    i < places.len()
+    let Some(_) = first_unordered(flat, width, skip) else {
+        return rests(alloc, flat, width, skip);
+    };
+    let (first, second) = halves(flat, width);
+    let a = odd_places(alloc, first, width, skip)?;
+    let b = odd_places(alloc, second, width, skip)?;
+    merged_rows(alloc, a.as_slice(), b.as_slice(), width - skip)
 }
 
 // Whether some place occurs an odd number of times among the rows without their first `skip` numbers. Where nothing is
@@ -199,9 +267,8 @@ fn has_odd_place(alloc: Global, flat: &[i32], width: usize, skip: usize) -> Resu
     if skip == width {
         return Ok(flat.len() / width % 2 == 1);
     }
-    let mut places = row_slices(alloc, flat, width, skip)?;
-    places.sort()?;
-    Ok(has_lone(places.as_slice()))
+    let odd = odd_places(alloc, flat, width, skip)?;
+    Ok(0 < odd.len())
 }
 
 // Whether some line parallel to the axis after the first `front` ones holds an odd number of rows.
@@ -249,9 +316,9 @@ impl Solid {
     /// Answers the first refusal: `Range(row)` for the first row with a coordinate past the limits of the dimension, else
     /// `Order(row)` for the first row that is not greater than the row before it, else `Odd(axis)` for the least axis
     /// with a parallel line that holds an odd number of rows. Rows are counted from 0, axes from 1. For `Range` and
-    /// `Order` it takes no memory. The test of lines sorts on each axis but the last the rows of each group that shares
-    /// the coordinates before: `O(n k log k)` steps for k rows, and at most 32 bytes a row beside the rows, which it
-    /// gives back.
+    /// `Order` it takes no memory. The test of lines merges on each axis but the last the rows of each group that
+    /// shares the coordinates before, without their coordinate on that axis, so that equal ones cancel: `O(n k log k)`
+    /// steps for k rows, and at most `8 (n - 1)` bytes a row beside the rows, which it gives back.
     pub fn check(alloc: Global, dim: usize, flat: Vec<i32>) -> Result<Solid, RowError>
         requires low { 0 < dim }
         requires high { dim ≤ 6 }
@@ -270,7 +337,7 @@ impl Solid {
         if let Some(row) = first_outside(flat.as_slice(), dim) {
             return Err(RowError::Range(row));
         }
-        if let Some(row) = first_unordered(flat.as_slice(), dim) {
+        if let Some(row) = first_unordered(flat.as_slice(), dim, 0) {
             return Err(RowError::Order(row));
         }
         if let Some(axis) = least_odd_axis(alloc, flat.as_slice(), dim)? {

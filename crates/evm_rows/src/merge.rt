@@ -53,7 +53,7 @@ pub fn append_rows(
 
 // The order of two rows of one length.
 #[inline(always)]
-fn row_order(x: &[i32], y: &[i32]) -> Ordering
+pub(crate) fn row_order(x: &[i32], y: &[i32]) -> Ordering
     requires { length x.now ≡ length y.now }
     ensures { result ≡ row_cmp x.now y.now }
 {
@@ -67,7 +67,11 @@ fn row_order(x: &[i32], y: &[i32]) -> Ordering
 
 // Appends a row, with the height before it if there is one.
 #[inline(always)]
-fn extend_by_row(out: &mut Vec<i32>, height: Option<i32>, row: &[i32]) -> Result<(), AllocError>
+pub(crate) fn extend_by_row(
+    out: &mut Vec<i32>,
+    height: Option<i32>,
+    row: &[i32],
+) -> Result<(), AllocError>
     ensures { OnOk result
         (out.new.items ≡ out.old.items ++ flat_of (raised height (row.now ∷ []))) }
 {
@@ -80,7 +84,7 @@ fn extend_by_row(out: &mut Vec<i32>, height: Option<i32>, row: &[i32]) -> Result
 
 // Appends each row of flat numbers, with the height before it if there is one.
 #[inline(always)]
-fn extend_by_rows(
+pub(crate) fn extend_by_rows(
     out: &mut Vec<i32>,
     height: Option<i32>,
     flat: &[i32],

@@ -98,7 +98,7 @@ box_room n lo hi h = and_second (is_point n lo && is_point n hi) (each int_lt lo
 
 -- ---- sums
 
-closed_sum : (f : List ℤ → Bool) (h : ℤ) (W : List (List ℤ)) → xsum f (closed h W) ≡ xor (xsum f W) (xsum (λ q. f (raised h q)) W)
+pub closed_sum : (f : List ℤ → Bool) (h : ℤ) (W : List (List ℤ)) → xsum f (closed h W) ≡ xor (xsum f W) (xsum (λ q. f (raised h q)) W)
 unfolding closed
 closed_sum f h [] = sym (ap (λ t. xor t (xsum (λ q. f (raised h q)) [])) (xsum-nil f) ∙ false-xor (xsum (λ q. f (raised h q)) []) ∙ xsum-nil (λ q. f (raised h q)) ∙ sym (xsum-nil f))
 closed_sum f h (p ∷ W) =
@@ -162,11 +162,11 @@ closing n lo hi V W p some box v a =
 
 -- ---- the loops
 
-low_stops : (h : ℤ) (R rest : List (List ℤ)) (row : List ℤ) → R ≡ row ∷ rest → int_lt (get_or row 0 (pos 0)) h ≡ false → low_rows h R ≡ []
+pub low_stops : (h : ℤ) (R rest : List (List ℤ)) (row : List ℤ) → R ≡ row ∷ rest → int_lt (get_or row 0 (pos 0)) h ≡ false → low_rows h R ≡ []
 unfolding low_rows
 low_stops h R rest row e l = ap (low_rows h) e ∙ ap (λ b. cond b (row ∷ low_rows h rest) []) l
 
-low_goes_on : (h : ℤ) (R rest : List (List ℤ)) (row : List ℤ) → R ≡ row ∷ rest → int_lt (get_or row 0 (pos 0)) h ≡ true → low_rows h R ≡ row ∷ low_rows h rest
+pub low_goes_on : (h : ℤ) (R rest : List (List ℤ)) (row : List ℤ) → R ≡ row ∷ rest → int_lt (get_or row 0 (pos 0)) h ≡ true → low_rows h R ≡ row ∷ low_rows h rest
 unfolding low_rows
 low_goes_on h R rest row e l = ap (low_rows h) e ∙ ap (λ b. cond b (row ∷ low_rows h rest) []) l
 

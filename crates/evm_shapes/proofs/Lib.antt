@@ -4,7 +4,9 @@ pub mod Shaped
 pub mod Sliced
 pub mod Shifted
 pub mod Lone
+pub mod Packed
 pub mod Clipped
 pub mod Missed
 pub mod Closing
 pub mod United
+pub mod Windowed

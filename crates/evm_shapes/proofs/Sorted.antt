@@ -1,10 +1,10 @@
 -- Rows in order, and what is left of them where equal rows cancel.
-use Rattle.std.proofs.Common.{◌≡◌, ℕ, zero, suc, ◌+◌, ◌-◌, ◌<◌, ◌≤◌, ◌%◌, Bool, true, false, not, cond, ◌==◌, List, [], ◌∷◌, ◌++◌, length, drop, get_or, count_by, sum_by, ℤ, refl, sym, ap, ap₂, ◌∙◌, subst, arith, ⊎_elim, append_assoc, append-nil, eq-eqb, eqb-true, zero-add}
+use Rattle.std.proofs.Common.{◌≡◌, ℕ, zero, suc, ◌+◌, ◌-◌, ◌<◌, ◌≤◌, ◌%◌, Bool, true, false, not, cond, ◌==◌, List, [], ◌∷◌, ◌++◌, length, drop, get_or, map, sum_by, ℤ, refl, sym, ap, ap₂, ◌∙◌, subst, arith, ⊎_elim, append_assoc, append-nil, eq-eqb, eqb-true, zero-add}
 use Rattle.std.specs.List.{list_all}
 use Rattle.std.specs.List.Sorted.{IsPermutation}
 use Rattle.std.proofs.lemmas.List.{drop_more}
 use Rattle.std.proofs.lemmas.List.Sums.{sum_by-cons}
-use Rattle.std.proofs.lemmas.List.Sorted.{IsPermutation-map, sum_by-IsPermutation}
+use Rattle.std.proofs.lemmas.List.Sorted.{sum_by-IsPermutation}
 use Rattle.std.proofs.lemmas.Bool.{cases_lt, true≢false}
 use denote.Ref.{Bor}
 use Rattle.evm_cells.specs.Places.{same, before, ascending, has}
@@ -16,7 +16,7 @@ use Rattle.evm_cells.proofs.Universe.{xsum-same_place}
 use Rattle.evm_rows.specs.Rows.{rows_of, flat_of}
 use Rattle.evm_rows.proofs.RowsOrder.{Wide, rows_of-flat_of, length-flat_of}
 use Rattle.evm_rows.specs.Groups.{reaches, steady, targets}
-use Rattle.evm_rows.proofs.Pairs.{before_trans, earlier_of, not_true, pair_cancels, count_sorted, two_ahead, targets_push}
+use Rattle.evm_rows.proofs.Pairs.{before_trans, earlier_of, not_true, pair_cancels, two_ahead, targets_push}
 use native.Mathlib.Nat.{mul-mod_left}
 use Rattle.evm_shapes.specs.Order.{starts_pair, unpaired}
 use Rattle.evm_cells.specs.Windows.{IsReduced}
@@ -42,10 +42,8 @@ no_misses p (x ∷ S) e = at (p x) refl (sym (sum_by-cons (λ (s : List ℤ). co
         and_both (p x) (list_all p S) t (g (let z : 0 + k ≡ k = zero-add k in sym z ∙ h))
     at false t f g = absurd (not_one (sum_by (λ (s : List ℤ). cond (p s) 0 1) S) (ap (λ (b : Bool). cond b 0 1 + sum_by (λ (s : List ℤ). cond (p s) 0 1) S) (sym t) ∙ f))
 
-pub all_sorted : (p : List ℤ → Bool) (bs cs : List (Bor (List ℤ))) → IsPermutation bs cs → list_all p (targets bs) ≡ true → list_all p (targets cs) ≡ true
-all_sorted p bs cs h a =
-    no_misses p (targets cs)
-    (sum_by-IsPermutation (λ (s : List ℤ). cond (p s) 0 1) (targets bs) (targets cs) (IsPermutation-map (λ (b : Bor (List ℤ)). b.now) bs cs h) ∙ misses p (targets bs) a)
+pub all_sorted : (p : List ℤ → Bool) (V S : List (List ℤ)) → IsPermutation V S → list_all p V ≡ true → list_all p S ≡ true
+all_sorted p V S h a = no_misses p S (sum_by-IsPermutation (λ (s : List ℤ). cond (p s) 0 1) V S h ∙ misses p V a)
 
 -- what cancels does not count
 sum-unpaired : (q : List ℤ) (S : List (List ℤ)) → xsum (λ s. same s q) (unpaired S) ≡ xsum (λ s. same s q) S
@@ -118,19 +116,25 @@ gathered_more bs cs b R rest all e r h =
 pub gathered_all : (bs : List (Bor (List ℤ))) (R all : List (List ℤ)) → R ≡ [] → targets bs ++ R ≡ all → targets bs ≡ all
 gathered_all bs R all e h = sym (append-nil (targets bs)) ∙ ap (λ z. targets bs ++ z) (sym e) ∙ h
 
--- whether a pair starts at i
+drop_none : {X : Type 0} (xs : List X) (k : ℕ) → length xs ≤ k → drop k xs ≡ []
+drop_none [] zero e = refl
+drop_none [] (suc k) e = refl
+drop_none (x ∷ xs) zero e = absurd (omega arith)
+drop_none (x ∷ xs) (suc k) e = drop_none xs k (omega arith)
+
+-- whether a pair starts at i, where each x stands for the row f x
+pub pair_at : {X : Type 0} (f : X → List ℤ) (xs : List X) (i : ℕ) (d : X) → i + 1 < length xs → starts_pair (map f (drop i xs)) ≡ same (f (get_or xs i d)) (f (get_or xs (i + 1) d))
+pair_at f xs i d l = ap (λ ys. starts_pair (map f ys)) (two_ahead xs i d l)
+
+pub pair_last : {X : Type 0} (f : X → List ℤ) (xs : List X) (i : ℕ) (d : X) → i < length xs → length xs ≤ i + 1 → starts_pair (map f (drop i xs)) ≡ false
+pair_last f xs i d l m =
+    ap (λ ys. starts_pair (map f ys)) (drop_more xs i d l ∙ ap (λ ys. get_or xs i d ∷ ys) (drop_none xs (i + 1) m))
+
 pub starts_pair-at : (bs : List (Bor (List ℤ))) (i : ℕ) (d : Bor (List ℤ)) → i + 1 < length bs → starts_pair (targets (drop i bs)) ≡ same (get_or bs i d).now (get_or bs (i + 1) d).now
-starts_pair-at bs i d l = ap (λ cs. starts_pair (targets cs)) (two_ahead bs i d l)
+starts_pair-at bs i d l = pair_at (λ (b : Bor (List ℤ)). b.now) bs i d l
 
 pub starts_pair-last : (bs : List (Bor (List ℤ))) (i : ℕ) (d : Bor (List ℤ)) → i < length bs → length bs ≤ i + 1 → starts_pair (targets (drop i bs)) ≡ false
-starts_pair-last bs i d l m =
-    ap (λ cs. starts_pair (targets cs)) (drop_more bs i d l ∙ ap (λ cs. get_or bs i d ∷ cs) (drop-past bs (i + 1) m))
-  where
-    drop-past : (xs : List (Bor (List ℤ))) (k : ℕ) → length xs ≤ k → drop k xs ≡ []
-    drop-past [] zero e = refl
-    drop-past [] (suc k) e = refl
-    drop-past (x ∷ xs) zero e = absurd (omega arith)
-    drop-past (x ∷ xs) (suc k) e = drop-past xs k (omega arith)
+starts_pair-last bs i d l m = pair_last (λ (b : Bor (List ℤ)). b.now) bs i d l m
 
 -- a pair is left out
 unpaired_pair : (S : List (List ℤ)) (x y : List ℤ) (R : List (List ℤ)) → S ≡ x ∷ y ∷ R → starts_pair S ≡ true → unpaired S ≡ unpaired R
@@ -147,35 +151,39 @@ unpaired_one S x (y ∷ R) e h =
     ap unpaired e ∙ ap (λ b. cond b (unpaired R) (x ∷ unpaired (y ∷ R))) t
 
 -- the steps of a loop that leaves pairs out
+pub pair_out : {X : Type 0} (f : X → List ℤ) (d : X) (xs : List X) (i : ℕ) (out all : List ℤ) → i < length xs → true ≡ starts_pair (map f (drop i xs)) → out ++ flat_of (unpaired (map f (drop i xs))) ≡ all
+    → (i + 2 ≤ length xs) × (out ++ flat_of (unpaired (map f (drop (i + 2) xs))) ≡ all)
+pair_out f d xs i out all l h e = ⊎_elim
+    (λ (m : i + 1 < length xs).
+    let two : map f (drop i xs) ≡ f (get_or xs i d) ∷ f (get_or xs (i + 1) d) ∷ map f (drop (i + 2) xs) = ap (map f) (two_ahead xs i d m) in (
+      omega arith,
+      ap (λ V. out ++ flat_of V) (sym (unpaired_pair (map f (drop i xs)) (f (get_or xs i d)) (f (get_or xs (i + 1) d)) (map f (drop (i + 2) xs)) two (sym h))) ∙ e,
+    ))
+    (λ (m : length xs ≤ i + 1). absurd (true≢false (h ∙ pair_last f xs i d l m)))
+    (cases_lt (i + 1) (length xs))
+
+pub one_out : {X : Type 0} (f : X → List ℤ) (xs : List X) (i : ℕ) (d : X) (out new all : List ℤ) → i < length xs → false ≡ starts_pair (map f (drop i xs)) → new ≡ out ++ f (get_or xs i d) → out ++ flat_of (unpaired (map f (drop i xs))) ≡ all
+    → new ++ flat_of (unpaired (map f (drop (i + 1) xs))) ≡ all
+one_out f xs i d out new all l h n e =
+    let one : map f (drop i xs) ≡ f (get_or xs i d) ∷ map f (drop (i + 1) xs) = ap (map f) (drop_more xs i d l) in
+    ap (λ z. z ++ flat_of (unpaired (map f (drop (i + 1) xs)))) n
+    ∙ append_assoc out (f (get_or xs i d)) (flat_of (unpaired (map f (drop (i + 1) xs))))
+    ∙ ap (λ V. out ++ flat_of V) (sym (unpaired_one (map f (drop i xs)) (f (get_or xs i d)) (map f (drop (i + 1) xs)) one (sym h))) ∙ e
+
+pub all_out : {X : Type 0} (f : X → List ℤ) (xs : List X) (i : ℕ) (out all : List ℤ) → length xs ≤ i → out ++ flat_of (unpaired (map f (drop i xs))) ≡ all → out ≡ all
+unfolding unpaired
+all_out f xs i out all m e = sym (append-nil out) ∙ ap (λ ys. out ++ flat_of (unpaired (map f ys))) (sym (drop_none xs i m)) ∙ e
+
 pub out_pair : (bs : List (Bor (List ℤ))) (i : ℕ) (out all : List ℤ) → i < length bs → true ≡ starts_pair (targets (drop i bs)) → out ++ flat_of (unpaired (targets (drop i bs))) ≡ all
     → (i + 2 ≤ length bs) × (out ++ flat_of (unpaired (targets (drop (i + 2) bs))) ≡ all)
-out_pair bs i out all l h e = ⊎_elim
-    (λ (m : i + 1 < length bs).
-    let none : Bor (List ℤ) = record { ref_ptr = (0, 0); now = [] } in
-    let two : targets (drop i bs) ≡ (get_or bs i none).now ∷ (get_or bs (i + 1) none).now ∷ targets (drop (i + 2) bs) = ap targets (two_ahead bs i none m) in (
-      omega arith,
-      ap (λ V. out ++ flat_of V) (sym (unpaired_pair (targets (drop i bs)) (get_or bs i none).now (get_or bs (i + 1) none).now (targets (drop (i + 2) bs)) two (sym h))) ∙ e,
-    ))
-    (λ (m : length bs ≤ i + 1). absurd (true≢false (h ∙ starts_pair-last bs i (record { ref_ptr = (0, 0); now = [] }) l m)))
-    (cases_lt (i + 1) (length bs))
+out_pair bs i out all l h e = pair_out (λ (b : Bor (List ℤ)). b.now) (record { ref_ptr = (0, 0); now = [] }) bs i out all l h e
 
 pub out_one : (bs : List (Bor (List ℤ))) (i : ℕ) (d : Bor (List ℤ)) (out new all : List ℤ) → i < length bs → false ≡ starts_pair (targets (drop i bs)) → new ≡ out ++ (get_or bs i d).now → out ++ flat_of (unpaired (targets (drop i bs))) ≡ all
     → new ++ flat_of (unpaired (targets (drop (i + 1) bs))) ≡ all
-out_one bs i d out new all l h n e =
-    let one : targets (drop i bs) ≡ (get_or bs i d).now ∷ targets (drop (i + 1) bs) = ap targets (drop_more bs i d l) in
-    ap (λ z. z ++ flat_of (unpaired (targets (drop (i + 1) bs)))) n
-    ∙ append_assoc out (get_or bs i d).now (flat_of (unpaired (targets (drop (i + 1) bs))))
-    ∙ ap (λ V. out ++ flat_of V) (sym (unpaired_one (targets (drop i bs)) (get_or bs i d).now (targets (drop (i + 1) bs)) one (sym h))) ∙ e
+out_one bs i d out new all l h n e = one_out (λ (b : Bor (List ℤ)). b.now) bs i d out new all l h n e
 
 pub out_done : (bs : List (Bor (List ℤ))) (i : ℕ) (out all : List ℤ) → length bs ≤ i → out ++ flat_of (unpaired (targets (drop i bs))) ≡ all → out ≡ all
-unfolding unpaired
-out_done bs i out all m e = sym (append-nil out) ∙ ap (λ cs. out ++ flat_of (unpaired (targets cs))) (sym (drop-none bs i m)) ∙ e
-  where
-    drop-none : (xs : List (Bor (List ℤ))) (k : ℕ) → length xs ≤ k → drop k xs ≡ []
-    drop-none [] zero e = refl
-    drop-none [] (suc k) e = refl
-    drop-none (x ∷ xs) zero e = absurd (omega arith)
-    drop-none (x ∷ xs) (suc k) e = drop-none xs k (omega arith)
+out_done bs i out all m e = all_out (λ (b : Bor (List ℤ)). b.now) bs i out all m e
 
 wide_from : (n : ℕ) (S : List (List ℤ)) → Wide n S → list_all (λ p. length p == n) S ≡ true
 wide_from n [] w = refl
@@ -186,14 +194,14 @@ from_wide n [] a = tt
 from_wide n (x ∷ S) a = (eqb-true (length x) n (and_first (length x == n) (list_all (λ p. length p == n) S) a), from_wide n S (and_second (length x == n) (list_all (λ p. length p == n) S) a))
 
 -- sorted and without pairs, the rows are reduced
-pub reduced_is : (n : ℕ) (L : List (List ℤ)) (bs cs : List (Bor (List ℤ))) (flat : List ℤ) → 0 < n → Wide (n - 0) L → targets bs ≡ L → IsPermutation bs cs → steady (targets cs) ≡ true → flat ≡ flat_of (unpaired (targets cs))
+pub reduced_is : (n : ℕ) (L S : List (List ℤ)) (flat : List ℤ) → 0 < n → Wide (n - 0) L → IsPermutation L S → steady S ≡ true → flat ≡ flat_of (unpaired S)
     → (length flat % n ≡ 0) × IsReduced n L (rows_of flat n 0)
-reduced_is n L bs cs flat some wide0 t h s f =
+reduced_is n L S flat some wide0 h s f =
     let less : n - 0 ≡ n = omega arith in
     let wide : Wide n L = subst (λ (k : ℕ). Wide k L) less wide0 in
-    let W : List (List ℤ) = unpaired (targets cs) in
-    let a : ascending W ≡ true = ascending-unpaired (targets cs) s in
-    let b : list_all (λ p. length p == n) W ≡ true = all-unpaired (λ p. length p == n) (targets cs) (all_sorted (λ p. length p == n) bs cs h (ap (list_all (λ p. length p == n)) t ∙ wide_from n L wide)) in
+    let W : List (List ℤ) = unpaired S in
+    let a : ascending W ≡ true = ascending-unpaired S s in
+    let b : list_all (λ p. length p == n) W ≡ true = all-unpaired (λ p. length p == n) S (all_sorted (λ p. length p == n) L S h (wide_from n L wide)) in
     let w : Wide n W = from_wide n W b in
     let r : rows_of flat n 0 ≡ W = ap (λ (z : List ℤ). rows_of z n 0) f ∙ rows_of-flat_of n W some w in (
       ap (λ (z : List ℤ). length z % n) f ∙ ap (λ (k : ℕ). k % n) (length-flat_of n W w) ∙ mul-mod_left (length W) n,
@@ -201,7 +209,7 @@ reduced_is n L bs cs flat some wide0 t h s f =
         ascends = ap ascending r ∙ a;
         wide = ap (list_all (λ p. length p == n)) r ∙ b;
         odd_times = λ p.
-            ap (λ V. has V p) r ∙ sym (xsum-same_place W p a) ∙ sum-unpaired p (targets cs) ∙ sym (odd-count (λ (q : List ℤ). same q p) (targets cs))
-            ∙ count_sorted bs cs p h ∙ ap (λ V. odd (count_by (λ q. same q p) V)) t;
+            ap (λ V. has V p) r ∙ sym (xsum-same_place W p a) ∙ sum-unpaired p S ∙ sym (odd-count (λ (q : List ℤ). same q p) S)
+            ∙ ap odd (sum_by-IsPermutation (λ (s : List ℤ). cond (same s p) 1 0) L S h);
       },
     )

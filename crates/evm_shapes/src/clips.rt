@@ -11,13 +11,14 @@ ghost use Rattle.evm_shapes.specs.Shapes.{clipped_cells};
 ghost use Rattle.evm_shapes.specs.Moves.{closed, low_rows, raised, stays_in};
 ghost use Rattle.evm_shapes.specs.Order.{AreMoved};
 
+use crate::inside::rows_inside_by_keys;
 use crate::order::{lone_rows, reduced};
 use evm_rows::{NoMemory, Rows, Solid, own, split_row};
 use std::alloc::{AllocError, Global};
 
 // The number, moved between the two.
 #[tactic(auto, unfolding(evm_cells::specs::Windows::between))]
-fn between(x: i32, lo: i32, hi: i32) -> i32
+pub(crate) fn between(x: i32, lo: i32, hi: i32) -> i32
     ensures { result ≡ between lo hi x }
 {
     if x < lo {
@@ -199,7 +200,7 @@ fn ends_below(a: Rows<'_>, at: i32) -> bool {
     count == 0 || a.coord(count - 1, 1) < at
 }
 
-// The same rows, the shorter way.
+// The same rows: by keys where they are that narrow, else the shorter way.
 fn rows_inside(alloc: Global, a: Rows<'_>, lo: &[i32], hi: &[i32]) -> Result<Vec<i32>, AllocError>
     requires { is_box (vertices_of a).dim lo.now hi.now ≡ true }
     ensures whole { IfOk result (λ v. length v.items % (vertices_of a.entry).dim ≡ 0) }
@@ -207,7 +208,9 @@ fn rows_inside(alloc: Global, a: Rows<'_>, lo: &[i32], hi: &[i32]) -> Result<Vec
         (λ v. AreMoved lo.now hi.now (vertices_of a.entry)
         (rows_of v.items (vertices_of a.entry).dim 0)) }
 {
-    if ends_below(a, hi[0]) {
+    if a.dim() <= 4 {
+        rows_inside_by_keys(alloc, a, lo, hi)
+    } else if ends_below(a, hi[0]) {
         moved_rows(alloc, a, lo, hi)
     } else {
         closed_rows(alloc, a, lo, hi)
@@ -216,7 +219,8 @@ fn rows_inside(alloc: Global, a: Rows<'_>, lo: &[i32], hi: &[i32]) -> Result<Vec
 
 /// The cells in the box from `lo` up to, but not at, `hi` on each axis, which has a length on each axis and ends within the
 /// limits. Its rows are the rows of the solid, each coordinate moved into the box, that then stand an odd number of times.
-/// Takes memory for the rows three times at most, for references to them, and for the answer. The one error is want of memory.
+/// Takes memory for the answer, and for three keys of 16 bytes a row at most; where rows have more than four numbers, for the rows
+/// three times at most and for references to them. The one error is want of memory.
 pub fn clip(alloc: Global, a: Rows<'_>, lo: &[i32], hi: &[i32]) -> Result<Solid, NoMemory>
     requires { is_box (vertices_of a).dim lo.now hi.now ≡ true }
     ensures dim { IfOk result (λ s. s.dim ≡ (vertices_of a.entry).dim) }

@@ -2,6 +2,8 @@
 #![tactic(auto)]
 
 mod clips;
+mod inside;
+mod keys;
 mod moves;
 mod order;
 mod prisms;

@@ -5,6 +5,7 @@ ghost use Rattle.evm_rows.specs.Groups.{targets};
 ghost use Rattle.evm_cells.specs.Windows.{IsReduced};
 ghost use Rattle.evm_shapes.specs.Order.{starts_pair, unpaired, AreLone};
 
+use crate::keys::reduced_by_keys;
 use evm_rows::split_row;
 use std::alloc::{AllocError, Global};
 
@@ -59,9 +60,8 @@ fn append_unpaired(out: &mut Vec<i32>, rows: &[&[i32]]) -> Result<(), AllocError
     Ok(())
 }
 
-/// The rows of `flat`, each of `width` numbers, that occur an odd number of times, ascending. Takes memory for a reference a row, and
-/// for the answer. The one error is want of memory.
-pub fn reduced(alloc: Global, flat: &[i32], width: usize) -> Result<Vec<i32>, AllocError>
+// The rows that occur an odd number of times, by references that are sorted.
+fn reduced_by_rows(alloc: Global, flat: &[i32], width: usize) -> Result<Vec<i32>, AllocError>
     requires some { 0 < width }
     requires narrow { width ≤ 6 }
     requires whole { length flat.now % width ≡ 0 }
@@ -74,4 +74,21 @@ pub fn reduced(alloc: Global, flat: &[i32], width: usize) -> Result<Vec<i32>, Al
     let mut out = Vec::with_capacity(alloc, rows.len().saturating_mul(width))?;
     append_unpaired(&mut out, rows.as_slice())?;
     Ok(out)
+}
+
+/// The rows of `flat`, each of `width` numbers, that occur an odd number of times, ascending. Takes memory for a key or a reference
+/// of 16 bytes a row, and for the answer. The one error is want of memory.
+pub fn reduced(alloc: Global, flat: &[i32], width: usize) -> Result<Vec<i32>, AllocError>
+    requires some { 0 < width }
+    requires narrow { width ≤ 6 }
+    requires whole { length flat.now % width ≡ 0 }
+    ensures whole { IfOk result (λ v. length v.items % width ≡ 0) }
+    ensures rows { IfOk result
+        (λ v. IsReduced width (rows_of flat.now width 0) (rows_of v.items width 0)) }
+{
+    if width <= 4 {
+        reduced_by_keys(alloc, flat, width)
+    } else {
+        reduced_by_rows(alloc, flat, width)
+    }
 }

@@ -1,8 +1,8 @@
 ghost use Rattle.std.specs.Prelude.{◌≡◌, IfOk};
 
-use crate::{ShapeError, clip, lift, mirror, project, shift, slice, swap};
+use crate::{ShapeError, clip, lift, mirror, project, reduced, shift, slice, swap};
 use evm_rows::{NoMemory, Solid, xor};
-use std::alloc::Global;
+use std::alloc::{AllocError, Global};
 
 // Whether the solid has these rows.
 fn has_rows(solid: &Solid, dim: usize, numbers: &[i32]) -> bool {
@@ -121,6 +121,23 @@ fn heightened(alloc: Global) -> Result<(bool, bool), NoMemory> {
     ))
 }
 
+// The rows that are left of the numbers at the ends of their type, with keys of 4 and 1 numbers, and with references.
+fn sorted(alloc: Global) -> Result<(bool, bool, bool), AllocError> {
+    let (low, high) = (i32::MIN, i32::MAX);
+    let four = reduced(
+        alloc,
+        &[high, low, -1, 0, low, high, 0, -1, low, high, -1, low],
+        4,
+    )?;
+    let one = reduced(alloc, &[0, high, -1, low, high, 1, 0, high], 1)?;
+    let five = reduced(alloc, &[0, 0, 0, 0, high, 0, 0, 0, 0, low], 5)?;
+    Ok((
+        four.as_slice() == [low, high, -1, low, low, high, 0, -1, high, low, -1, 0].as_slice(),
+        one.as_slice() == [low, -1, 1, high].as_slice(),
+        five.as_slice() == [0, 0, 0, 0, low, 0, 0, 0, 0, high].as_slice(),
+    ))
+}
+
 #[test]
 fn shapes(rt: HostRuntime) {
     assert_eq!(rt; turned(rt.alloc()), Ok((true, true)));
@@ -129,4 +146,5 @@ fn shapes(rt: HostRuntime) {
     assert_eq!(rt; stacked(rt.alloc()), Ok((true, true)));
     assert_eq!(rt; moved(rt.alloc()), Ok((true, true)));
     assert_eq!(rt; heightened(rt.alloc()), Ok((true, true)));
+    assert_eq!(rt; sorted(rt.alloc()), Ok((true, true, true)));
 }

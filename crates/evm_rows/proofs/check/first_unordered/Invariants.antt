@@ -8,9 +8,9 @@ invariant-loop-later l = record {
   whole : length l.later % l.width ≡ 0;
   some : 0 < l.number;
   counted : l.number + length l.later ≤ length l.flat;
-  left : drop l.number (rows_of l.flat l.width 0) ≡ rows_of l.later l.width 0;
-  latest : get_or (rows_of l.flat l.width 0) (l.number - 1) [] ≡ l.last;
-  passed : (j : ℕ) → 0 < j → j < l.number → before (get_or (rows_of l.flat l.width 0) (j - 1) []) (get_or (rows_of l.flat l.width 0) j []) ≡ true;
+  left : drop l.number (rows_of l.flat l.width l.skip) ≡ rows_of l.later l.width l.skip;
+  latest : get_or (rows_of l.flat l.width l.skip) (l.number - 1) [] ≡ l.last;
+  passed : (j : ℕ) → 0 < j → j < l.number → before (get_or (rows_of l.flat l.width l.skip) (j - 1) []) (get_or (rows_of l.flat l.width l.skip) j []) ≡ true;
 }
 
 abbrev pub decreases-loop-later : goal.decreases-loop-later

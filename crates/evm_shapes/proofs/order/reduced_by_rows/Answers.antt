@@ -4,7 +4,7 @@ use Rattle.evm_rows.specs.Groups.{targets}
 use Rattle.evm_shapes.specs.Order.{unpaired}
 use Rattle.evm_rows.proofs.Pairs.{steady_sorted}
 use Rattle.evm_shapes.proofs.Lone.{lone_is}
-use Rattle.evm_shapes.proofs.order.reduced.Goals as goal
+use Rattle.evm_shapes.proofs.order.reduced_by_rows.Goals as goal
 
 pub returns-clause-whole : goal.returns-clause-whole
 returns-clause-whole c =
