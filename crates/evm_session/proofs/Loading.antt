@@ -14,7 +14,7 @@ use Rattle.evm_model.specs.Files.{Fetches, figure_in, figure_stated, or_nothing,
 use Rattle.evm_model.specs.Scene.{Scene, stands, is_input, dim_of, value}
 use Rattle.evm_model.specs.Edits.{Code, Name, Kind, Dim, Range, Missing, Form, Replace, first_cause, value_causes, after, changed}
 use Rattle.evm_model.specs.Replies.{No, Changed, Measured, reply_text}
-use Rattle.evm_model.specs.Steps.{Turn, stays, unless_refused, edited, load_causes, file_causes, loaded, load_turn, save_causes, saved, command_asks}
+use Rattle.evm_model.specs.Steps.{Turn, stays, unless_refused, edited, load_causes, file_causes, loaded, load_turn, save_causes, saved}
 use Rattle.evm_session.specs.declared.refusals.Refusal.{Refusal}
 use Rattle.evm_session.specs.declared.refusals.Refusal.TheVariants as refusals
 use Rattle.evm_session.specs.Answers.{ShelfView}
@@ -208,12 +208,6 @@ pub save_unfit : (scene : Scene) (name : List ℕ) (form : SaveForm) (file befor
 save_unfit scene name form file before shelf s f =
     carried_alone (Err refusals.Dim) scene scene before before shelf (request_of scene (commands.Save name form file)) (stays scene (No Dim)) refl
     (λ fetched. save_by scene name form (saved scene file (bytes_in form (value scene name))) false s f) (record { reply = refl; placed = refl }) (refl, refl, refl)
-
--- a save that asks the shelf
-pub save_asks : (scene : Scene) (name : List ℕ) (form : SaveForm) (file : List ℕ) → stands scene name ≡ true → save_fits form (dim_of scene name) ≡ true → command_asks scene (commands.Save name form file) ≡ true
-save_asks scene name form file s f =
-    ap (λ (t : Bool). is_none (first_cause ((not t, Name) ∷ (not (save_fits form (dim_of scene name)), Dim) ∷ []))) s
-    ∙ ap (λ (t : Bool). is_none (first_cause ((not t, Dim) ∷ []))) f
 
 -- a save whose file was placed
 pub save_done : (scene : Scene) (name : List ℕ) (form : SaveForm) (file bytes before now : List ℕ) (shelf_old shelf_new : ShelfView) → stands scene name ≡ true → save_fits form (dim_of scene name) ≡ true → bytes ≡ bytes_in form (value scene name)

@@ -9,12 +9,12 @@ use Rattle.evm_script.specs.declared.command.Command.{Command}
 use Rattle.evm_script.specs.declared.command.Command.TheVariants as commands
 use Rattle.evm_model.specs.Files.{Fetches, no_files}
 use Rattle.evm_model.specs.Figures.{content_of, boundary_of, fills, place_of, slice_of, proj_of, faces_of, parts_of}
-use Rattle.evm_model.specs.Scene.{Scene, value, dim_of}
-use Rattle.evm_model.specs.Edits.{Edit, Input, Toggle, Add, Cut, Replace, Def, Drop, Code, first_cause, name_causes, place_causes, section_causes, axis_causes, edit_causes, after, changed}
+use Rattle.evm_model.specs.Scene.{Scene, value, dim_of, reading, attached}
+use Rattle.evm_model.specs.Edits.{Edit, Input, Toggle, Add, Cut, Replace, Def, Drop, Code, first_cause, name_causes, place_causes, attach_causes, reading_causes, section_causes, axis_causes, edit_causes, after, changed}
 use Rattle.evm_model.specs.Edits as codes
 use Rattle.evm_model.specs.Replies.{Reply, Empty, No, Changed, Shown, Measured, Filled, Placed, Faced, Parted, Reported, Listed}
 use Rattle.evm_model.specs.Reports.{reported}
-use Rattle.evm_model.specs.Steps.{Turn, stays, unless_refused, edited, asked, turn_of, command_fetches}
+use Rattle.evm_model.specs.Steps.{Turn, stays, unless_refused, edited, asked, read_off, turn_of, command_fetches}
 use Rattle.evm_model.specs.Runs.{fetched_from, with_placed}
 use Rattle.evm_session.specs.declared.refusals.Refusal.{Refusal}
 use Rattle.evm_session.specs.declared.refusals.Refusal.TheVariants as refusals
@@ -87,6 +87,11 @@ quiet_edited : (scene : Scene) (edit : Edit) (reply : Reply) → tells_shelf rep
 quiet_edited scene edit reply h =
     quiet_turn (edit_causes scene edit) scene (record { reply = reply; scene = after scene edit; placed = None }) (quiet_edit scene edit) (record { reply = h; placed = refl })
 
+-- neither does a reading
+quiet_reading : (o : Option ℕ) → tells_shelf (read_off o) ≡ false
+quiet_reading None = refl
+quiet_reading (Some n) = refl
+
 -- the turn of a command that names no file is quiet
 pub quiet_command : (scene : Scene) (c : Command) → names_file c ≡ false → IsQuiet (turn_of no_files scene c)
 quiet_command scene commands.Blank h = quiet_reply scene Empty refl
@@ -97,6 +102,10 @@ quiet_command scene (commands.Cut name nums) h = quiet_edited scene (Cut name nu
 quiet_command scene (commands.Load name form file) h = absurd (false≢true (sym h))
 quiet_command scene (commands.Def name formula) h = quiet_edited scene (Def name formula) (Changed (changed scene (Def name formula))) refl
 quiet_command scene (commands.Drop name) h = quiet_edited scene (Drop name) (Changed 0) refl
+quiet_command scene (commands.Meter slot name) h =
+    quiet_turn (attach_causes scene slot name) scene _ refl (record { reply = quiet_reading (reading (attached scene slot name) slot); placed = refl })
+quiet_command scene (commands.Read slot) h = quiet_asked (reading_causes scene slot) scene (read_off (reading scene slot)) refl (quiet_reading (reading scene slot))
+quiet_command scene (commands.Unmeter slot) h = quiet_turn (reading_causes scene slot) scene _ refl (record { reply = refl; placed = refl })
 quiet_command scene commands.List h = quiet_reply scene (Listed scene.entries) refl
 quiet_command scene (commands.Show name) h = quiet_asked (name_causes scene name) scene (Shown (value scene name)) refl refl
 quiet_command scene (commands.Section name axis at) h = quiet_asked (section_causes scene name axis at) scene (Shown (slice_of (nat_abs axis) at (value scene name))) refl refl

@@ -10,9 +10,8 @@ ghost use Rattle.evm_session.specs.Requests.{names_file, request_of, line_reques
 use super::edits::{edit, edit_name};
 use super::files::{load, save};
 use super::lists::list;
-use super::questions::{at, boundary, content, parts, point, show};
+use super::questions::{at, boundary, content, parts, point, report, show};
 use super::refusals::Refusal;
-use super::reports::report;
 use super::sections::{faces, project, section};
 use super::slots::{meter, read, unmeter};
 use evm_meter::Meter;

@@ -26,7 +26,7 @@ pub fn edit<M: Meter>(
 {
     reserve_number(out)?;
     let done = scene.apply(alloc, edit)?;
-    put_number(out, done.names);
+    put_number(out, done.names as u128);
     Ok(())
 }
 

@@ -121,6 +121,6 @@ pub fn save<M: Meter, S: Shelf>(
     let bytes = write_form(alloc, form, &solid)?;
     reserve_number(out)?;
     shelf.place(alloc, file.bytes(), bytes.as_slice())?;
-    put_number(out, bytes.len());
+    put_number(out, bytes.len() as u128);
     Ok(())
 }

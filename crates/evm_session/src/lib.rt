@@ -3,16 +3,22 @@
 //! A session holds a scene: names of solids of 2 to 6 dimensions, each an input or a formula over other names. `input` makes an
 //! input without cells, `toggle`, `add` and `cut` change one by a box, `load` puts the cells that a file states in place of its
 //! own, `def` makes or changes a formula, and `drop` takes a name out. `save` places the solid of a name as a file. `show`,
-//! `section`, `project`, `faces`, `parts`, `report`, `content`, `boundary`, `at` and `point` ask about one name, and `list` about all. The
-//! contracts speak of a session as a scene of `evm_model`, whose `answer` says for each scene, files and line what the reply is and
+//! `section`, `project`, `faces`, `parts`, `report`, `content`, `boundary`, `at` and `point` ask about one name, and `list` about all.
+//!
+//! A session is handed meters, each in a slot of its own, counted from 0. `meter` lets the meter of a free slot watch a name, and from
+//! then on `read` tells the measure of the name's solid as it is now; `unmeter` gives the meter up, and its slot is gone for good. A name
+//! that is watched is not dropped.
+//!
+//! The contracts speak of a session as a scene of `evm_model`, whose `answer` says for each scene, files and line what the reply is and
 //! what scene and files are after it: the vertices, measures, places, faces and parts there are those of sets of unit cells.
 //!
 //! The scene keeps the solid of each name, as a tree of tiles: a question that looks at all of it puts its rows together, one cell and a
 //! section of the first axis are looked for near them, and an edit of a name carries its change through the names that read it, by
-//! formulas of formulas too, and through no other. All that can fail comes before a session or a file
-//! changes: the reply to an edit or a save has its room before the scene makes the edit or the shelf places the file. A line takes
-//! memory for its words, for the file that it loads or saves, for the solids that its edit makes anew, for the rows that its question
-//! looks at and what it counts with, and for its reply: at most 8 bytes a coordinate of `show`, and about 250 bytes a name of `list`.
+//! formulas of formulas too, and through no other. All that can fail comes before a session or a file changes: the reply to an edit, a
+//! change of a slot or a save has its room before the scene makes it or the shelf places the file. A line takes memory for its words,
+//! for the file that it loads or saves, for the solids that its edit makes anew and what their meters look at, for the rows that its
+//! question looks at and what it counts with, and for its reply: at most 12 bytes a coordinate of `show`, and about 250 bytes a name of
+//! `list`.
 #![tactic(auto)]
 
 ghost use Rattle.std.specs.Prelude.{◌≡◌, ℕ, map, None, Some, IfOk};

@@ -10,6 +10,7 @@ ghost use Rattle.evm_script.specs.declared.command.Command.TheVariants as comman
 use super::cells::is_filled;
 use super::refusals::Refusal;
 use super::replies::{say, say_number, say_parts, say_solid};
+use super::reports::text_on;
 use evm_measure as measure;
 use evm_member::{Place, place};
 use evm_meter::Meter;
@@ -92,6 +93,27 @@ pub fn parts<M: Meter>(
     let solid = tree.to_rows(alloc)?;
     let parts = components::parts(alloc, solid.rows())?;
     say_parts(out, alloc, &parts)?;
+    Ok(())
+}
+
+/// One JSON object: the dimension, what the name stands for, its measures, the number of its parts, and its ends on each axis.
+pub fn report<M: Meter>(
+    scene: &Scene<M>,
+    alloc: Global,
+    name: &Name,
+    out: &mut Vec<u8>,
+) -> Result<(), Refusal>
+    ensures { Carries result scene.now scene.now out.old.items out.new.items
+        (turn_of no_files scene.now (commands.Report name.now)) }
+{
+    let Some(tree) = scene.kept(name) else {
+        return Err(Refusal::Name);
+    };
+    let solid = tree.to_rows(alloc)?;
+    let text = text_on(alloc, name, scene.formula(name), &solid)?;
+    say(out, b"ok ")?;
+    say(out, text.as_str().as_bytes())?;
+    say(out, b"\n")?;
     Ok(())
 }
 

@@ -2,7 +2,7 @@
 
 ghost use Rattle.std.specs.Prelude.{◌≡◌, ◌++◌, ◌∷◌, [], ◌+◌, ◌<◌, ◌≤◌, codes, decimal, length, OnOk, vec_len, vec_capacity};
 ghost use Rattle.std.specs.Fmt.{signed_decimal};
-ghost use Rattle.evm_model.specs.Replies.{line_of, spaced, rows_text, reply_text, Changed, Measured, Shown};
+ghost use Rattle.evm_model.specs.Replies.{line_of, spaced, rows_text, reply_text, Changed, Done, Measured, Shown};
 ghost use Rattle.evm_rows.specs.View.{vertices_of};
 ghost use Rattle.evm_scene.specs.Tables.{figure_of};
 ghost use Rattle.evm_session.specs.Says.{Says, behind_spaces};
@@ -48,10 +48,10 @@ pub fn say_number(out: &mut Vec<u8>, n: u128) -> Result<(), NoMemory>
     say(out, b"\n")
 }
 
-/// The most bytes of the reply `ok N` for a number of 64 bits: `ok `, 20 digits and LF.
-const NUMBER_BYTES: usize = 24;
+/// At least the bytes of the reply `ok N` for a number of 128 bits, which are `ok `, at most 39 digits and LF.
+const NUMBER_BYTES: usize = 48;
 
-/// Reserves the room for the reply `ok N`.
+/// Reserves the room for the reply `ok N`, or `ok`.
 pub fn reserve_number(out: &mut Vec<u8>) -> Result<(), NoMemory>
     ensures items { out.new.items ≡ out.old.items }
     ensures room { OnOk result (vec_len out.new + NUMBER_BYTES ≤ vec_capacity out.new) }
@@ -73,7 +73,7 @@ fn put(out: &mut Vec<u8>, text: &[u8])
 }
 
 /// Appends the reply `ok N`, where its room was reserved. Takes no memory.
-pub fn put_number(out: &mut Vec<u8>, n: usize)
+pub fn put_number(out: &mut Vec<u8>, n: u128)
     requires { vec_len out.old + NUMBER_BYTES ≤ vec_capacity out.old }
     ensures changed { out.new.items ≡ out.old.items ++ reply_text (Changed n) }
     ensures measured { out.new.items ≡ out.old.items ++ reply_text (Measured n) }
@@ -82,6 +82,15 @@ pub fn put_number(out: &mut Vec<u8>, n: usize)
     put(out, b"ok ");
     put(out, digits.format(n).as_bytes());
     put(out, b"\n");
+}
+
+/// Appends the reply `ok`, where its room was reserved. Takes no memory.
+#[tactic(auto, unfolding(evm_model::specs::Replies::reply_text))]
+pub fn put_done(out: &mut Vec<u8>)
+    requires { vec_len out.old + NUMBER_BYTES ≤ vec_capacity out.old }
+    ensures { out.new.items ≡ out.old.items ++ reply_text Done }
+{
+    put(out, b"ok\n");
 }
 
 /// Appends a coordinate behind a space.

@@ -1,22 +1,14 @@
-//! The report on the solid of a name.
+//! The text of the report on the solid of a name.
 
 ghost use Rattle.std.specs.Prelude.{◌≡◌, ◌<◌, length, map, option_map, string_bytes, IfOk};
 ghost use Rattle.evm_report.specs.Report.{report_text};
-ghost use Rattle.evm_model.specs.Files.{no_files};
 ghost use Rattle.evm_model.specs.Reports.{axis_end, ends_of};
-ghost use Rattle.evm_model.specs.Steps.{turn_of};
-ghost use Rattle.evm_session.specs.Carried.{Carries};
 ghost use Rattle.evm_session.specs.Reported.{pick_of, kind_by, operands_by, names_with, facts_with};
-ghost use Rattle.evm_script.specs.declared.command.Command.TheVariants as commands;
 
-use super::refusals::Refusal;
-use super::replies::say;
 use evm_measure::{boundary, content};
-use evm_meter::Meter;
 use evm_parts::parts;
 use evm_report::{Report, report_text};
 use evm_rows::{NoMemory, Solid};
-use evm_scene::Scene;
 use evm_script::{Formula, Name};
 use itoa::Buffer;
 use std::alloc::Global;
@@ -145,7 +137,7 @@ fn operands_of<'a>(alloc: Global, formula: Option<&'a Formula>) -> Result<Vec<&'
 }
 
 /// The text of the report on a solid under a name.
-fn text_on(
+pub fn text_on(
     alloc: Global,
     name: &Name,
     formula: Option<&Formula>,
@@ -177,25 +169,4 @@ fn text_on(
     };
     let text = report_text(alloc, &report)?;
     Ok(text)
-}
-
-/// One JSON object: the dimension, what the name stands for, its measures, the number of its parts, and its ends on each axis.
-pub fn report<M: Meter>(
-    scene: &Scene<M>,
-    alloc: Global,
-    name: &Name,
-    out: &mut Vec<u8>,
-) -> Result<(), Refusal>
-    ensures { Carries result scene.now scene.now out.old.items out.new.items
-        (turn_of no_files scene.now (commands.Report name.now)) }
-{
-    let Some(tree) = scene.kept(name) else {
-        return Err(Refusal::Name);
-    };
-    let solid = tree.to_rows(alloc)?;
-    let text = text_on(alloc, name, scene.formula(name), &solid)?;
-    say(out, b"ok ")?;
-    say(out, text.as_str().as_bytes())?;
-    say(out, b"\n")?;
-    Ok(())
 }

@@ -1,7 +1,13 @@
 //! Sessions, asked by each command and refused by each code, with replies worked out by hand.
 
+ghost use Rattle.std.specs.Prelude.{◌≡◌, ◌×◌, ℕ, None, Some, IfOk};
+ghost use Rattle.std.specs.List.{slice_get};
+ghost use Rattle.evm_meter.specs.declared.stock.StockMeter.{StockMeter};
+
 use super::Session;
+use evm_meter::StockMeter;
 use evm_outside::MemShelf;
+use std::alloc::{AllocError, Global};
 use std::process::Abort;
 use std::test::Fail;
 
@@ -198,9 +204,58 @@ const FILES: [(&str, &str); 22] = [
     ("content b", "ok 4\n"),
 ];
 
+/// A square and its shift, which meters of the content, of the boundary content and of the number of vertices watch while a cell comes
+/// beside the square; and what is refused of slots.
+const METERS: [(&str, &str); 32] = [
+    ("input a 2", "ok 0\n"),
+    ("add a 0 0 2 2", "ok 1\n"),
+    ("def d shift a 5 0", "ok 0\n"),
+    ("read 0", "no meter\n"),
+    ("meter 0 a", "ok 4\n"),
+    ("meter 1 a", "ok 8\n"),
+    ("meter 2 d", "ok 4\n"),
+    ("add a 2 0 3 1", "ok 2\n"),
+    ("read 0", "ok 5\n"),
+    ("read 1", "ok 10\n"),
+    ("read 2", "ok 6\n"),
+    ("add a 0 0 0 1", "no range\n"),
+    ("read 0", "ok 5\n"),
+    ("meter 0 a", "no meter\n"),
+    ("meter 3 a", "no meter\n"),
+    ("meter 99 a", "no meter\n"),
+    ("meter -1 a", "no meter\n"),
+    ("meter -1 zz", "no name\n"),
+    ("meter 0 zz", "no name\n"),
+    ("drop d", "no used\n"),
+    ("unmeter 2", "ok\n"),
+    ("drop d", "ok 0\n"),
+    ("drop a", "no used\n"),
+    ("unmeter 0", "ok\n"),
+    ("read 0", "no meter\n"),
+    ("unmeter 0", "no meter\n"),
+    ("meter 0 a", "no meter\n"),
+    ("read -1", "no meter\n"),
+    ("drop a", "no used\n"),
+    ("read 1", "ok 10\n"),
+    ("unmeter 1", "ok\n"),
+    ("drop a", "ok 0\n"),
+];
+
+/// A meter of the content, one of the boundary content and one of the number of vertices, without readings.
+fn meters(alloc: Global) -> Result<Vec<StockMeter>, AllocError>
+    ensures { IfOk result (λ v. (k : ℕ) (m : StockMeter) → slice_get v.items k ≡ Some m
+        → (m.reading ≡ None) × (m.pending ≡ None)) }
+{
+    vec![in alloc;
+        StockMeter::content(),
+        StockMeter::boundary(),
+        StockMeter::vertices(),
+    ]
+}
+
 /// Asks a new session, over a shelf whose first call fails.
 fn answers(rt: &(impl Abort + AllocGlobal), answered: &[(&str, &str)]) -> Result<(), Fail> {
-    let mut session = Session::new(rt.alloc())?;
+    let mut session = Session::new(rt.alloc(), meters(rt.alloc())?)?;
     let mut shelf = MemShelf::new(rt.alloc(), [0].to_vec(rt.alloc())?);
     let mut out = Vec::new(rt.alloc());
     for (line, reply) in answered {
@@ -242,8 +297,13 @@ fn files_are_saved_and_loaded(rt: HostRuntime) -> Result<(), Fail> {
 }
 
 #[test]
+fn meters_follow_the_names_that_they_watch(rt: HostRuntime) -> Result<(), Fail> {
+    answers(&rt, &METERS)
+}
+
+#[test]
 fn a_line_may_be_too_long(rt: HostRuntime) -> Result<(), Fail> {
-    let mut session = Session::new(rt.alloc())?;
+    let mut session = Session::new(rt.alloc(), meters(rt.alloc())?)?;
     let mut shelf = MemShelf::new(rt.alloc(), Vec::new(rt.alloc()));
     let mut out = Vec::new(rt.alloc());
     let long = vec![in rt.alloc(); b' '; 4097]?;

@@ -8,7 +8,7 @@ use Rattle.evm_session.proofs.Listing.{front_said, entry_said, line_said}
 use Rattle.evm_session.proofs.lists.say_entry.Goals as goal
 
 pub returns-in_err-say_what : goal.returns-in_err-say_what
-returns-in_err-say_what c =
+returns-in_err-say_what g c =
     let name = c.in_ok-say.ensures ∙ ap (λ (t : List ℕ). c.args.out.now.items ++ t) c.bytes.ensures.value in
     says_failed c.from_residual-in_err-say_what.result c.args.out.now.items c.say_what.new.out.items (entry_line (entry_of c.args.scene.now.entries c.args.name.now)) c.from_residual-in_err-say_what.ensures.0
     (extends_more c.args.out.now.items c.say-3.new.out.items c.say_what.new.out.items _
@@ -16,7 +16,7 @@ returns-in_err-say_what c =
     c.in_err-say_what.ensures)
 
 pub returns : goal.returns
-returns c =
+returns g c =
     let name = c.in_ok-say.ensures ∙ ap (λ (t : List ℕ). c.args.out.now.items ++ t) c.bytes.ensures.value in
     let formula = formula_of c.args.scene.now c.args.name.now in
     let what = c.in_ok-say_what.ensures ∙ ap (λ (o : Option Formula). c.say-3.new.out.items ++ what_text o) c.formula.ensures in

@@ -13,7 +13,7 @@ use Rattle.evm_session.proofs.Answering.{filled_found, between_cells, is_a_cell}
 use Rattle.evm_session.proofs.questions.at.Goals as goal
 
 pub returns-in_default-between : goal.returns-in_default-between
-returns-in_default-between c =
+returns-in_default-between g c =
     let v = c.in-Some.tree.now in
     let nums = c.args.nums.now in
     let high : to_z w32 (of_z w32 (to_z w32 (of_z w32 c.limit-limit.result) -ℤ pos 1)) ≡ pos (limit c.dim-dim.result) -ℤ pos 1 = search rules in
@@ -25,7 +25,7 @@ returns-in_default-between c =
     (place_by c.args.scene.now c.args.name.now nums is_cell_coord v.dim _ true false c.in-Some.ensures.value.0 c.in-Some.ensures.dim many out, refl, refl)
 
 pub is_filled-requires : goal.is_filled-requires
-is_filled-requires c =
+is_filled-requires g c =
     let high : to_z w32 (of_z w32 (to_z w32 (of_z w32 c.limit-limit.result) -ℤ pos 1)) ≡ pos (limit c.dim-dim.result) -ℤ pos 1 = search rules in
     let low : to_z w32 (of_z w32 (pos 0 -ℤ to_z w32 (of_z w32 c.limit-limit.result))) ≡ neg_ℤ (pos (limit c.dim-dim.result)) = search rules in
     let place = c.values.ensures ∙ c.in-Some-between.ensures.1 in
@@ -33,7 +33,7 @@ is_filled-requires c =
     (sym (between_cells c.dim-dim.result c.args.nums.now _ _ low high) ∙ c.in-Some-between.ensures.0)
 
 pub returns : goal.returns
-returns c =
+returns g c =
     let scene = c.args.scene.now in
     let name = c.args.name.now in
     let v = c.in-Some.tree.now in

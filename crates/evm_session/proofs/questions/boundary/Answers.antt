@@ -12,7 +12,7 @@ use Rattle.evm_session.proofs.Answering.{measured_text, boundary_found}
 use Rattle.evm_session.proofs.questions.boundary.Goals as goal
 
 pub returns : goal.returns
-returns c =
+returns g c =
     let scene = c.args.scene.now in
     let name = c.args.name.now in
     let v = c.in-Some.tree.now in

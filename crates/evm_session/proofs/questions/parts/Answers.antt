@@ -11,7 +11,7 @@ use Rattle.evm_session.proofs.Counting.{parts_said}
 use Rattle.evm_session.proofs.questions.parts.Goals as goal
 
 pub returns : goal.returns
-returns c =
+returns g c =
     let scene = c.args.scene.now in
     let name = c.args.name.now in
     let v = c.in-Some.tree.now in

@@ -15,7 +15,7 @@ use Rattle.evm_session.proofs.Answering.{between_points}
 use Rattle.evm_session.proofs.questions.point.Goals as goal
 
 pub returns-in_default-between : goal.returns-in_default-between
-returns-in_default-between c =
+returns-in_default-between g c =
     let v = c.in-Some.tree.now in
     let nums = c.args.nums.now in
     let high : to_z w32 (of_z w32 c.limit-limit.result) ≡ pos (limit c.dim-dim.result) = search rules in
@@ -27,7 +27,7 @@ returns-in_default-between c =
     (place_by c.args.scene.now c.args.name.now nums is_point_coord v.dim _ true false c.in-Some.ensures.value.0 c.in-Some.ensures.dim many out, refl, refl)
 
 pub place-place-requires : goal.place-place-requires
-place-place-requires c =
+place-place-requires g c =
     let high : to_z w32 (of_z w32 c.limit-limit.result) ≡ pos (limit c.dim-dim.result) = search rules in
     let low : to_z w32 (of_z w32 (pos 0 -ℤ to_z w32 (of_z w32 c.limit-limit.result))) ≡ neg_ℤ (pos (limit c.dim-dim.result)) = search rules in
     let place = c.values.ensures ∙ c.in-Some-between.ensures.1 in
@@ -35,7 +35,7 @@ place-place-requires c =
     (sym (between_points c.dim-dim.result c.args.nums.now _ _ low high) ∙ c.in-Some-between.ensures.0)
 
 pub returns : goal.returns
-returns c =
+returns g c =
     let scene = c.args.scene.now in
     let name = c.args.name.now in
     let v = c.in-Some.tree.now in

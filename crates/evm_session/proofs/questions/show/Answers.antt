@@ -9,7 +9,7 @@ use Rattle.evm_session.proofs.Turns.{carried, asked_found}
 use Rattle.evm_session.proofs.questions.show.Goals as goal
 
 pub returns : goal.returns
-returns c =
+returns g c =
     let scene = c.args.scene.now in
     let name = c.args.name.now in
     let found : figure_of c.in_ok-solid.solid ≡ value scene name = ap figure_of c.in_ok-solid.ensures ∙ c.in-Some.ensures.value.1 in

@@ -12,11 +12,11 @@ use Rattle.evm_session.proofs.Counting.{cuts_said}
 use Rattle.evm_session.proofs.sections.faces.Goals as goal
 
 pub cut_faces-requires-clause-deep : goal.cut_faces-requires-clause-deep
-cut_faces-requires-clause-deep c =
+cut_faces-requires-clause-deep g c =
     deep_rows c.args.scene.now c.args.name.now (vertices_of c.rows.result) c.in-Some.tree.now c.facts.ensures c.in-Some.ensures.value.0 (c.rows.ensures ∙ c.in_ok-solid.ensures) c.in-Some.ensures.dim
 
 pub returns : goal.returns
-returns c =
+returns g c =
     let scene = c.args.scene.now in
     let name = c.args.name.now in
     let axis = c.args.axis.now in

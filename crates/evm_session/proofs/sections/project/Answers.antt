@@ -10,12 +10,12 @@ use Rattle.evm_session.proofs.Slicing.{deep_enough, axis_by, proj_found}
 use Rattle.evm_session.proofs.sections.project.Goals as goal
 
 pub project-requires-clause-deep : goal.project-requires-clause-deep
-project-requires-clause-deep c =
+project-requires-clause-deep g c =
     subst (λ (n : ℕ). 2 ≤ n) (sym (ap (λ (a : Vertices). a.dim) (c.rows.ensures ∙ c.in_ok-solid.ensures) ∙ c.in-Some.ensures.dim))
     (deep_enough c.args.scene.now c.args.name.now c.facts.ensures c.in-Some.ensures.value.0)
 
 pub returns : goal.returns
-returns c =
+returns g c =
     let scene = c.args.scene.now in
     let name = c.args.name.now in
     let axis = c.args.axis.now in

@@ -8,12 +8,12 @@ use Rattle.evm_session.proofs.Slicing.{deep_enough, section_by, slice_found}
 use Rattle.evm_session.proofs.sections.section.Goals as goal
 
 pub section_of-requires-clause-deep : goal.section_of-requires-clause-deep
-section_of-requires-clause-deep c =
+section_of-requires-clause-deep g c =
     subst (λ (n : ℕ). 2 ≤ n) (sym c.in-Some.ensures.dim)
     (deep_enough c.args.scene.now c.args.name.now c.facts.ensures c.in-Some.ensures.value.0)
 
 pub returns : goal.returns
-returns c =
+returns g c =
     let scene = c.args.scene.now in
     let name = c.args.name.now in
     let axis = c.args.axis.now in

@@ -5,10 +5,10 @@ use Rattle.evm_model.specs.Reports.{reported}
 use Rattle.evm_model.specs.Steps.{asked}
 use Rattle.evm_session.proofs.Turns.{carried, asked_found}
 use Rattle.evm_session.proofs.Reporting.{report_said}
-use Rattle.evm_session.proofs.reports.report.Goals as goal
+use Rattle.evm_session.proofs.questions.report.Goals as goal
 
 pub returns : goal.returns
-returns c =
+returns g c =
     let scene = c.args.scene.now in
     let name = c.args.name.now in
     let text = c.as_bytes.ensures.value ∙ c.as_str.ensures.value ∙ c.in_ok-text.ensures in
