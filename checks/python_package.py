@@ -203,7 +203,8 @@ def not_sent():
             *(lambda name=name: scene.input(name, 2) for name in ("", "A", "1a", "a b", "a\nb", "a" * 33, "ä", "py_1", None)),
             lambda: scene.input("c", 2.5), lambda: a.add((0, 0), (1, 1.5)), lambda: a.add((0, 0, 0), (1,)), lambda: a.add((), ()), lambda: a.add(0, 1),
             lambda: a.add((0, 0), (1, 10 ** 10)), lambda: a.add(range(7), range(1, 8)), lambda: a.at("ab"), lambda: a.edit_all([("load", (0, 0), (1, 1))]),
-            lambda: a | b, lambda: scene.define("c", b.mirror(1)), lambda: scene.define("c", "a"), lambda: scene.drop(a.mirror(1)), lambda: scene.drop("py_1"), lambda: scene.ask("# note"), lambda: scene.ask(" "), lambda: scene.ask("list\nlist"),
+            lambda: a | b, lambda: scene.define("c", b.mirror(1)), lambda: scene.define("c", "a"), lambda: scene.drop(a.mirror(1)), lambda: scene.drop("py_1"),
+            lambda: scene.ask("# note"), lambda: scene.ask(" "), lambda: scene.ask("list\nlist"), lambda: scene.box((0, 0), (1, 1, 1)),
             lambda: a.watch("size"), lambda: a.load(video), lambda: a.load(video, threshold=1, origin=(0, 0)), lambda: a.load(text),
             lambda: a.load(TOP / "examples" / "ring.boxes", threshold=1), lambda: a.load(video, form="mp4"), lambda: a.save(text), lambda: a.save(text, "stl"),
         ):
