@@ -146,6 +146,8 @@ def thresholds():
         solid.save(f"{folder}/a.nevm")
         assert solid.load(np.zeros((0, 4), dtype=bool)) == 1 and solid.array()[0].size == 0 and solid.array((0, 0), (2, 2)).sum() == 0
         assert solid.load(f"{folder}/a.nevm") == 1 and solid.content == 4
+        low = np.array([5, 5])
+        assert solid.add(low, low + 2) == 1 and solid.at(low) and solid.content == 8, "corners that are arrays"
         rows = solid.section(1, 1)
         assert isinstance(rows, Vertices) and np.asarray(rows).shape == (len(rows), 1)
 

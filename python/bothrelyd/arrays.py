@@ -1,17 +1,19 @@
 """Boolean arrays to vertices and back, by numpy. Axis k of an array is axis k of the solid (counted from 1 there).
 
 The extreme vertices of a set of cells are the places where the exclusive or of neighbours, taken along each axis in turn, is true; and a cell
-is filled where the number of vertices at or below it on all axes is odd. No call here loops over cells in Python.
+is filled where the number of vertices at or below it on all axes is odd. No call here loops over cells in Python. Vertices are given by columns:
+for each axis the array of their coordinates, as `numpy.nonzero` gives places; the vertices ascend.
 """
 from __future__ import annotations
 
-from typing import Iterable, Optional, Tuple
+from typing import Optional, Tuple
 
 import numpy as np
 
 from .errors import InvalidArgument
 from .files import LIMITS, MOST_FILE_BYTES, body_of, couplets, first_head
 
+Columns = Tuple[np.ndarray, ...]
 WIDE = 1024     # places in a layer from which on whole layers are added, one by one
 
 
@@ -31,46 +33,44 @@ def as_mask(values: object, dim: int, threshold: Optional[float]) -> np.ndarray:
     return found if threshold is None else np.asarray(found >= threshold)
 
 
-def vertices_of(mask: np.ndarray, origin: Tuple[int, ...]) -> np.ndarray:
-    """The extreme vertices of the cells that a boolean array fills, ascending; `origin` is the cell of its first element.
+def vertices_of(mask: np.ndarray, origin: Tuple[int, ...]) -> Columns:
+    """The extreme vertices of the cells that a boolean array fills; `origin` is the cell of its first element.
 
-    Returns
-    -------
-    numpy.ndarray
-        ``int64`` of shape (count, dimension).
+    Raises
+    ------
+    InvalidArgument
+        Where the origin has not a number for each axis.
     """
     if len(origin) != mask.ndim:
         raise InvalidArgument(f"an origin of {len(origin)} numbers for an array of {mask.ndim} dimensions")
-    if mask.size == 0:
-        return np.zeros((0, mask.ndim), dtype=np.int64)
     changes = mask
     for axis in range(mask.ndim):
         # Of booleans `diff` is the exclusive or of neighbours; beyond both ends no cell is filled.
         changes = np.diff(changes, axis=axis, prepend=False, append=False)
     places = np.unravel_index(np.flatnonzero(changes), changes.shape)
-    return np.stack(places, axis=1).astype(np.int64) + np.array(origin, dtype=np.int64)
+    return tuple(column + start for column, start in zip(places, origin))
 
 
-def file_of(rows: np.ndarray) -> bytes:
-    """The EVM file of version 1 of the vertices that `vertices_of` gave.
+def file_of(columns: Columns) -> bytes:
+    """The EVM file of version 1 of vertices.
 
     Raises
     ------
     InvalidArgument
         Where a coordinate is beyond the limit of the dimension, or the file would have more than 256 MiB.
     """
-    count, dim = rows.shape
-    limit = LIMITS[dim]
-    if count and (rows.min() < -limit or rows.max() > limit):
-        raise InvalidArgument(f"the array reaches from {rows.min(axis=0)} to {rows.max(axis=0)}, beyond {limit}, the limit of dimension {dim}")
+    dim, count = len(columns), len(columns[0])
+    low, high = bounds(columns)
+    if min(low) < -LIMITS[dim] or max(high) > LIMITS[dim]:
+        raise InvalidArgument(f"the array reaches from {low} to {high}, beyond {LIMITS[dim]}, the limit of dimension {dim}")
     head = first_head(dim, count)
-    if len(head) + 4 * rows.size > MOST_FILE_BYTES:
+    if len(head) + 4 * dim * count > MOST_FILE_BYTES:
         raise InvalidArgument(f"{count} vertices of dimension {dim} take a file of more than {MOST_FILE_BYTES} bytes")
-    return head + rows.astype(">i4").tobytes()
+    return head + rows_of(columns).astype(">i4").tobytes()
 
 
-def rows_of_file(data: bytes) -> np.ndarray:
-    """The vertices in an EVM file of version 2, as `vertices_of` gives them."""
+def vertices_in(data: bytes) -> Columns:
+    """The vertices in an EVM file of version 2."""
     dim, numbers = body_of(data)
     stream = np.array(numbers, dtype=np.int64)
     heights = [np.array(places, dtype=np.int64) for places in couplets(numbers, dim)]
@@ -81,24 +81,29 @@ def rows_of_file(data: bytes) -> np.ndarray:
         is_coordinate[places + 1] = False
     columns = [stream[is_coordinate]]
     if columns[0].size == 0:
-        return np.zeros((0, dim), dtype=np.int64)
+        return tuple(columns * dim)
     # From the last couplets outwards: how many rows each couplet has, and its height once for each of them.
     rows = None
     for places in reversed(heights):
         counts = stream[places + 1]
         rows = counts if rows is None else np.add.reduceat(rows, np.cumsum(counts) - counts)
         columns.insert(0, np.repeat(stream[places], rows))
-    return np.stack(columns, axis=1)
+    return tuple(columns)
 
 
-def bounds(rows: np.ndarray) -> Tuple[Tuple[int, ...], Tuple[int, ...]]:
+def rows_of(columns: Columns) -> np.ndarray:
+    """The same vertices as an array of ``int64`` of shape (count, dimension)."""
+    return np.stack(columns, axis=1).astype(np.int64, copy=False)
+
+
+def bounds(columns: Columns) -> Tuple[Tuple[int, ...], Tuple[int, ...]]:
     """The lower and the upper corner of the least box round the vertices; both 0 on all axes where there is none."""
-    if len(rows) == 0:
-        return (0,) * rows.shape[1], (0,) * rows.shape[1]
-    return tuple(rows.min(axis=0).tolist()), tuple(rows.max(axis=0).tolist())
+    if len(columns[0]) == 0:
+        return (0,) * len(columns), (0,) * len(columns)
+    return tuple(int(column.min()) for column in columns), tuple(int(column.max()) for column in columns)
 
 
-def mask_of(rows: np.ndarray, lo: Iterable[int], hi: Iterable[int]) -> np.ndarray:
+def mask_of(columns: Columns, lo: Tuple[int, ...], hi: Tuple[int, ...]) -> np.ndarray:
     """The cells from `lo` up to but not including `hi` that a solid fills, by its vertices.
 
     Returns
@@ -106,14 +111,17 @@ def mask_of(rows: np.ndarray, lo: Iterable[int], hi: Iterable[int]) -> np.ndarra
     numpy.ndarray
         Booleans of the shape ``hi - lo``; a byte a cell is needed.
     """
-    low, high = np.array(lo, dtype=np.int64), np.array(hi, dtype=np.int64)
-    sums = np.zeros(tuple((high - low).tolist()), dtype=np.uint8)
-    # A vertex counts for all cells from it on: before the box, on its border; behind it, for none.
-    near = rows[(rows < high).all(axis=1)]
-    if sums.size == 0 or len(near) == 0:
+    sums = np.zeros(tuple(end - start for start, end in zip(lo, hi)), dtype=np.uint8)
+    # A vertex counts for all cells from it on: behind the box for none, and before it as if it were on its border.
+    near = np.ones(len(columns[0]), dtype=bool)
+    for column, end in zip(columns, hi):
+        near &= column < end
+    if sums.size == 0 or not near.any():
         return sums.view(np.bool_)
-    places = np.ravel_multi_index(tuple((np.maximum(near, low) - low).T), sums.shape)
-    if (near < low).any():
+    columns = tuple(column[near] for column in columns)
+    moved = tuple(np.maximum(column, start) - start for column, start in zip(columns, lo))
+    places = np.ravel_multi_index(moved, sums.shape)
+    if any(column.min() < start for column, start in zip(columns, lo)):
         places, times = np.unique(places, return_counts=True)
         places = places[times % 2 == 1]
     sums.reshape(-1)[places] = 1

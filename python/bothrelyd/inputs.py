@@ -3,7 +3,7 @@ from __future__ import annotations
 
 import os
 from pathlib import Path
-from typing import TYPE_CHECKING, Any, Iterable, List, Optional, Tuple, Union
+from typing import TYPE_CHECKING, Any, Iterable, List, Optional, Tuple
 
 from . import files, replies, words
 from .errors import InvalidArgument, Refused
@@ -138,8 +138,8 @@ class Input(Solid):
             raise InvalidArgument("an array has no form")
         arrays = replies.numpy_arrays()
         mask = arrays.as_mask(source, self.dim, threshold)
-        rows = arrays.vertices_of(mask, (0,) * self.dim if origin is None else words.point(origin))
-        return self._load_from(self.scene._files.put(arrays.file_of(rows)), "evm")
+        columns = arrays.vertices_of(mask, (0,) * self.dim if origin is None else words.point(origin))
+        return self._load_from(self.scene._files.put(arrays.file_of(columns)), "evm")
 
     def _load_file(self, path: Path, threshold: Optional[float], origin: Optional[words.Point], form: Optional[str]) -> int:
         form = form or files.form_of(path)

@@ -24,18 +24,18 @@ def numpy_arrays() -> Any:
     return arrays
 
 
-def array_of(rows: "np.ndarray", lo: Optional[words.Point], hi: Optional[words.Point]) -> Union["np.ndarray", ArrayAndOrigin]:
-    """The boolean array of a box; without a box, that of the bounding box, and its origin."""
+def array_of(columns: Tuple["np.ndarray", ...], lo: Optional[words.Point], hi: Optional[words.Point]) -> Union["np.ndarray", ArrayAndOrigin]:
+    """The boolean array of a box, from the columns of vertices; without a box, that of the bounding box, and its origin."""
     arrays = numpy_arrays()
     if (lo is None) != (hi is None):
         raise InvalidArgument("a box has two corners: give both, or none for the bounding box")
     if lo is None or hi is None:
-        low, high = arrays.bounds(rows)
-        return arrays.mask_of(rows, low, high), low
+        low, high = arrays.bounds(columns)
+        return arrays.mask_of(columns, low, high), low
     low, high = words.point(lo), words.point(hi)
-    if not len(low) == len(high) == rows.shape[1] or any(b < a for a, b in zip(low, high)):
-        raise InvalidArgument(f"there is no box from {low} to {high} in dimension {rows.shape[1]}")
-    return arrays.mask_of(rows, low, high)
+    if not len(low) == len(high) == len(columns) or any(b < a for a, b in zip(low, high)):
+        raise InvalidArgument(f"there is no box from {low} to {high} in dimension {len(columns)}")
+    return arrays.mask_of(columns, low, high)
 
 
 class Vertices(SequenceType):
@@ -89,7 +89,7 @@ class Vertices(SequenceType):
     def array(self, lo=None, hi=None):
         """The cells as booleans; see `Solid.array`."""
         numpy_arrays()
-        return array_of(self.__array__(), lo, hi)
+        return array_of(tuple(self.__array__().T), lo, hi)
 
 
 class Part(NamedTuple):

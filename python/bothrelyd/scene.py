@@ -7,7 +7,7 @@ from collections import deque
 from typing import Any, Deque, Dict, List, NamedTuple, Optional, Tuple, Union
 
 from . import words
-from .errors import InvalidArgument, Refused
+from .errors import InvalidArgument, NoMeter, Refused
 from .files import Folder
 from .formulas import Formula
 from .inputs import Input
@@ -43,7 +43,6 @@ class Scene:
         self._unused: Deque[str] = deque()      # names of formulas that nothing refers to any more
         self._named: Dict[str, Solid] = {}
         self._numbers = itertools.count(1)
-        self._meters_taken = {kind: 0 for kind in KINDS}
         self._files = Folder()
         try:
             self._program = Program(path, str(self._files.path))
@@ -184,10 +183,13 @@ class Scene:
     def _watch(self, kind: str, solid: Solid) -> Meter:
         if kind not in KINDS:
             raise InvalidArgument(f"{kind!r} is no kind of meter: {', '.join(KINDS)}")
-        numbers = KINDS[kind]
-        made = Meter(solid, kind, numbers[min(self._meters_taken[kind], len(numbers) - 1)])
-        self._meters_taken[kind] += 1
-        return made
+        *others, last = KINDS[kind]
+        for number in others:
+            try:
+                return Meter(solid, kind, number)
+            except NoMeter:
+                continue    # taken, or gone
+        return Meter(solid, kind, last)
 
 
 def _end(program: Program, files: Folder) -> None:

@@ -3,7 +3,7 @@ from __future__ import annotations
 
 import os
 from pathlib import Path
-from typing import TYPE_CHECKING, List, Optional, Union, overload
+from typing import TYPE_CHECKING, List, Optional, Tuple, Union, overload
 
 from . import files, replies, words
 from .errors import DiskFull, InvalidArgument, ShelfFault
@@ -69,37 +69,120 @@ class Solid:
         ----------
         cell : sequence of int
             One number an axis. The cell ``(3, 5)`` is the square from (3, 5) to (4, 6).
+
+        Returns
+        -------
+        bool
+
+        Raises
+        ------
+        WrongDimension, OutOfRange
+            Where it has not one number an axis; where it is no cell within the limits.
         """
         return self._ask("at", *words.point(cell)) == ["ok filled"]
 
     def place(self, point: words.Point) -> str:
         """Where a lattice point lies.
 
+        Parameters
+        ----------
+        point : sequence of int
+            One number an axis.
+
         Returns
         -------
         str
             ``"inside"`` where all cells round it are filled, ``"outside"`` where none is, else ``"boundary"``.
+
+        Raises
+        ------
+        WrongDimension, OutOfRange
+            Where it has not one number an axis; where a number is beyond the limits.
         """
         return self._ask("point", *words.point(point))[0][3:]
 
     def section(self, axis: int, k: int) -> Vertices:
-        """The section at the cells with coordinate `k` on an axis: its vertices, of one dimension less."""
+        """The section at the cells with coordinate `k` on an axis.
+
+        Parameters
+        ----------
+        axis : int
+            Counted from 1.
+        k : int
+            The coordinate of the cells that are cut, which reach from `k` to `k` + 1.
+
+        Returns
+        -------
+        Vertices
+            Of one dimension less, which may be 1. `slice` gives the same as a formula.
+
+        Raises
+        ------
+        WrongDimension, OutOfRange
+            Where there is no such axis; where no cell may have this coordinate.
+        """
         return replies.vertices(self._ask("section", words.number(axis), words.number(k)))
 
     def project(self, axis: int) -> Vertices:
-        """The projection along an axis: its vertices, of one dimension less."""
+        """The projection along an axis: what the cells stand over.
+
+        Parameters
+        ----------
+        axis : int
+            Counted from 1.
+
+        Returns
+        -------
+        Vertices
+            Of one dimension less, which may be 1. `proj` gives the same as a formula.
+
+        Raises
+        ------
+        WrongDimension
+            Where there is no such axis.
+        """
         return replies.vertices(self._ask("project", words.number(axis)))
 
     def parts(self) -> List[Part]:
-        """Its components by shared faces, in the order of their least cells, each with its content and its vertices."""
+        """Its components: cells that meet at an edge or a corner alone are in two.
+
+        Returns
+        -------
+        list of Part
+            In the order of their least cells, each with its `content` in cells and its `vertices`. All vertices come as text, and are read
+            where they are asked for.
+        """
         return replies.parts(self._ask("parts"), self.dim)
 
     def faces(self, axis: int) -> List[Cut]:
-        """The heights of an axis at which the section changes, ascending: how many cells rise and how many fall there."""
+        """The heights of an axis at which the section changes.
+
+        Parameters
+        ----------
+        axis : int
+            Counted from 1.
+
+        Returns
+        -------
+        list of Cut
+            Ascending, each with the height `at`, the number of cells `rising` (above it, and not below it) and `falling` (below it, and not
+            above it). Over all axes these add up to the boundary content.
+
+        Raises
+        ------
+        WrongDimension
+            Where there is no such axis.
+        """
         return replies.cuts(self._ask("faces", words.number(axis)))
 
     def report(self) -> Report:
-        """Its measures, its bounding box, the number of its parts and vertices, and its formula's word, in one answer."""
+        """All its measures in one answer.
+
+        Returns
+        -------
+        Report
+            Its name, kind, dimension, content, boundary content, numbers of vertices and parts, bounding box, and operands.
+        """
         return replies.report(self._ask("report"))
 
     def watch(self, kind: str) -> "Meter":
@@ -132,10 +215,14 @@ class Solid:
         NumpyMissing
             Where numpy is not installed.
         """
+        return replies.numpy_arrays().rows_of(self._columns())
+
+    def _columns(self) -> "Tuple[np.ndarray, ...]":
+        """Its vertices, an array of coordinates for each axis."""
         arrays = replies.numpy_arrays()
         name = self.scene._files.fresh()
         self._save("evm", name)
-        return arrays.rows_of_file(self.scene._files.take(name))
+        return arrays.vertices_in(self.scene._files.take(name))
 
     @overload
     def array(self) -> ArrayAndOrigin: ...
@@ -163,7 +250,7 @@ class Solid:
         InvalidArgument
             Where one corner is missing, or `hi` is below `lo`.
         """
-        return replies.array_of(self.vertices(), lo, hi)
+        return replies.array_of(self._columns(), lo, hi)
 
     def save(self, path: Union[str, "os.PathLike[str]"], form: Optional[str] = None) -> int:
         """Saves it as a file, in place of one that is there.
@@ -230,19 +317,19 @@ class Solid:
         return self._with("xor", other)
 
     def shift(self, by: words.Point) -> "Formula":
-        """It moved by one number an axis. An edit after which it would leave the limits is refused."""
+        """It moved by one number an axis, each at most twice the limit. An edit after which it would leave the limits is refused."""
         return self._formula("shift", self.dim, *words.point(by))
 
     def mirror(self, axis: int) -> "Formula":
-        """Its mirror image: x becomes -1 - x for cells, and -x for vertices."""
+        """Its mirror image across 0 of an axis (counted from 1): x becomes -1 - x for cells, and -x for vertices."""
         return self._formula("mirror", self.dim, words.number(axis))
 
     def swap(self, first: int, second: int) -> "Formula":
-        """It with two axes exchanged."""
+        """It with two axes exchanged (counted from 1)."""
         return self._formula("swap", self.dim, words.number(first), words.number(second))
 
     def clip(self, lo: words.Point, hi: words.Point) -> "Formula":
-        """Its part in a box."""
+        """Its part in the box from `lo` up to but not including `hi`."""
         return self._formula("clip", self.dim, *words.box(lo, hi))
 
     def slice(self, axis: int, k: int) -> "Formula":
@@ -254,5 +341,8 @@ class Solid:
         return self._formula("proj", self.dim - 1, words.number(axis))
 
     def lift(self, axis: int, lo: int, hi: int) -> "Formula":
-        """The prism over it from `lo` to `hi` on a new axis at that place, of one dimension more."""
+        """The prism over it from `lo` to `hi` on a new axis at that place (1 to `dim` + 1), of one dimension more.
+
+        An edit after which it would leave the limits of that dimension is refused.
+        """
         return self._formula("lift", self.dim + 1, words.number(axis), words.number(lo), words.number(hi))

@@ -3,3 +3,4 @@ pub mod Uses
 pub mod Taking
 pub mod Stating
 pub mod Numbers
+pub mod Plain

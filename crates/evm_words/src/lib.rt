@@ -4,10 +4,12 @@
 #![tactic(auto)]
 
 mod form;
+mod laws;
 mod options;
 #[cfg(test)]
 mod tests;
 mod words;
 
 pub use form::{Form, WordsError};
+pub use laws::plain_words_ask_for_forms;
 pub use words::read_words;
