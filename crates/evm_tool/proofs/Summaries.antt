@@ -18,7 +18,7 @@ use Rattle.evm_model.specs.Runs.{World, Mark, Plain, NoMemory, NoShelf, Fetched,
 use Rattle.evm_model.proofs.RunLaws.{run_more, world_more, texts_more, drop_more, run_no_marks, after_no_marks}
 use Rattle.evm_outside.specs.Shelves.{Files}
 use Rattle.evm_session.specs.Answers.{IsAnswered, IsAsBefore, ShelfView, shelf_view, FaultsBy}
-use Rattle.evm_tool.specs.Generated.{own_world, is_own, replies_of, fine_in, refused_in, summary_by, Replies, Counts, SoFar, Sums, Summed, Generates}
+use Rattle.evm_tool.specs.Generated.{own_world, is_own, replies_of, fine_in, refused_in, summary_by, Replies, Counts, SoFar, Sums, Summed, Generates, RefusalsAreLacks, NoneRefusedWithMemory}
 use Rattle.evm_tool.specs.Streams.{AppendsPart}
 use Rattle.evm_tool.specs.declared.top.Status.{Status}
 use Rattle.evm_tool.specs.declared.top.Status.TheVariants.{Done, Refused, WriteFault}
@@ -163,6 +163,8 @@ sums_of seed edits left scene f r last law e s =
           ∙ ap (λ (n : ℕ). line_of (codes "lines " ++ decimal (length rs)) ++ line_of (codes "ok " ++ decimal (fine_in rs)) ++ line_of (codes "no " ++ decimal n) ++ last) s.refusals
           ∙ ap (λ (t : List ℕ). line_of (codes "lines " ++ decimal (length rs)) ++ line_of (codes "ok " ++ decimal (fine_in rs)) ++ line_of (codes "no " ++ decimal (refused_in rs)) ++ t) s.kept;
       some = some_counted rs ∙ ap (nat_lt 0) (sym s.refusals);
+      lines = s.each ∙ all;
+      all = ap (λ (n : ℕ). n + refused_in rs) (sym s.fines) ∙ ap (λ (n : ℕ). f + n) (sym s.refusals) ∙ s.sum ∙ all;
     }
 
 -- the line that was given, and that none was left
@@ -175,25 +177,29 @@ no_line E true old new before now g t = absurd (false≢true (sym t))
 no_line E false old new before now g t = g.0
 
 -- the summary was written, or a part of it
-summed : (seed edits f r : ℕ) (last piece text : List ℕ) (some : Bool) (IsWritten : List ℕ → Type 0) → Sums seed edits f r last → text ≡ summary_by f r last → piece ≡ text → nat_lt 0 r ≡ some → IsWritten piece → Summed seed edits some IsWritten
-summed seed edits f r last piece text some IsWritten s e g t h = record {
+summed : RefusalsAreLacks → NoneRefusedWithMemory → (seed edits f r : ℕ) (last piece text : List ℕ) (some : Bool) (IsWritten : List ℕ → Type 0) → Sums seed edits f r last → text ≡ summary_by f r last → piece ≡ text → nat_lt 0 r ≡ some → IsWritten piece → Summed seed edits some IsWritten
+summed just lacking seed edits f r last piece text some IsWritten s e g t h = record {
   marks = s.marks;
   each = s.each;
   own = s.own;
+  lines = s.lines;
+  all = s.all;
   refused = s.some ∙ t;
+  lacking = sym (s.some ∙ t) ∙ lacking seed edits s.marks s.each s.own;
+  just = just seed edits s.marks s.each s.own;
   written = subst IsWritten (g ∙ e ∙ s.text) h;
 }
 
-pub summary_sent : (seed edits f r : ℕ) (last piece text : List ℕ) (before now : Option (List ℕ)) (status : Status) → Sums seed edits f r last → text ≡ summary_by f r last → piece ≡ text → Appends before now piece
+pub summary_sent : RefusalsAreLacks → NoneRefusedWithMemory → (seed edits f r : ℕ) (last piece text : List ℕ) (before now : Option (List ℕ)) (status : Status) → Sums seed edits f r last → text ≡ summary_by f r last → piece ≡ text → Appends before now piece
     → status ≡ (if nat_lt 0 r then Refused else Done) → Generates status seed edits before now
-summary_sent seed edits f r last piece text before now status s e g h t =
+summary_sent just lacking seed edits f r last piece text before now status s e g h t =
     subst (λ (x : Status). Generates x seed edits before now) (sym t) (by (nat_lt 0 r) refl)
   where
     by : (b : Bool) → nat_lt 0 r ≡ b → Generates (if b then Refused else Done) seed edits before now
-    by true k = summed seed edits f r last piece text true (λ x. Appends before now x) s e g k h
-    by false k = summed seed edits f r last piece text false (λ x. Appends before now x) s e g k h
+    by true k = summed just lacking seed edits f r last piece text true (λ x. Appends before now x) s e g k h
+    by false k = summed just lacking seed edits f r last piece text false (λ x. Appends before now x) s e g k h
 
-pub summary_cut : (seed edits f r : ℕ) (last piece text : List ℕ) (before now : Option (List ℕ)) → Sums seed edits f r last → text ≡ summary_by f r last → piece ≡ text → AppendsPart before now piece
+pub summary_cut : RefusalsAreLacks → NoneRefusedWithMemory → (seed edits f r : ℕ) (last piece text : List ℕ) (before now : Option (List ℕ)) → Sums seed edits f r last → text ≡ summary_by f r last → piece ≡ text → AppendsPart before now piece
     → Generates WriteFault seed edits before now
-summary_cut seed edits f r last piece text before now s e g h =
-    (nat_lt 0 r, summed seed edits f r last piece text (nat_lt 0 r) (λ x. AppendsPart before now x) s e g refl h)
+summary_cut just lacking seed edits f r last piece text before now s e g h =
+    (nat_lt 0 r, summed just lacking seed edits f r last piece text (nat_lt 0 r) (λ x. AppendsPart before now x) s e g refl h)

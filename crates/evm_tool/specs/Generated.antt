@@ -1,8 +1,8 @@
 -- What a generated script writes, by its replies.
-use Rattle.std.specs.Prelude.{ℕ, ◌≡◌, ◌+◌, ◌≤◌, Bool, true, false, not, nat_lt, if◌then◌else◌, List, [], ◌++◌, length, drop, count_by, Option, Result, Ok, Err, codes, decimal}
+use Rattle.std.specs.Prelude.{ℕ, ◌≡◌, ◌+◌, ◌≤◌, Bool, true, false, not, nat_lt, if◌then◌else◌, List, [], ◌++◌, length, drop, take, map, count_by, Option, Result, Ok, Err, codes, decimal}
 use Rattle.std.specs.FinMap as finite
 use Rattle.std.specs.Io.KnownBytes.{Appends}
-use Rattle.std.specs.List.{list_all}
+use Rattle.std.specs.List.{list_all, list_any}
 use Rattle.evm_generator.specs.Script.{generated_lines}
 use Rattle.evm_model.specs.Scene.{Scene, start}
 use Rattle.evm_model.specs.Replies.{Reply, reply_text, is_no, line_of}
@@ -23,9 +23,30 @@ is_own NoMemory = true
 is_own NoShelf = false
 is_own (Fetched got) = false
 
+-- whether memory was missing at a line
+abbrev pub lacks_memory : Mark → Bool
+lacks_memory Plain = false
+lacks_memory NoMemory = true
+lacks_memory NoShelf = false
+lacks_memory (Fetched got) = false
+
 -- the replies to the lines of a generated script, from no names and no files
 abbrev pub replies_of : ℕ → ℕ → List Mark → List Reply
 replies_of seed edits marks = run (own_world start) (generated_lines seed edits) marks
+
+-- where memory was there at each of the eight lines before the edits, just the lines are refused at which it was missing: with one
+-- mark a line, the replies that refuse stand where the marks are want of memory
+abbrev pub RefusalsAreLacks : Type 0
+RefusalsAreLacks = (seed edits : ℕ) (marks : List Mark)
+    → length marks ≡ edits + 14 → list_all is_own marks ≡ true
+    → list_any lacks_memory (take 8 marks) ≡ false
+    → map is_no (replies_of seed edits marks) ≡ map lacks_memory marks
+
+-- some line is refused exactly where memory was missing at some line
+abbrev pub NoneRefusedWithMemory : Type 0
+NoneRefusedWithMemory = (seed edits : ℕ) (marks : List Mark)
+    → length marks ≡ edits + 14 → list_all is_own marks ≡ true
+    → some_no (replies_of seed edits marks) ≡ list_any lacks_memory marks
 
 -- how many replies do not refuse, and how many do
 abbrev pub fine_in : List Reply → ℕ
@@ -87,13 +108,24 @@ pub record Sums (seed edits fine refused : ℕ) (last : List ℕ) : Type 0 where
   pub few : fine + refused ≡ edits + 14
   pub text : summary_by fine refused last ≡ summary_of edits (replies_of seed edits marks)
   pub some : some_no (replies_of seed edits marks) ≡ nat_lt 0 refused
+  pub lines : length (replies_of seed edits marks) ≡ edits + 14
+  pub all : fine_in (replies_of seed edits marks)
+      + refused_in (replies_of seed edits marks) ≡ edits + 14
 
--- with one mark for each line, some reply refuses or none does, and this is so of the summary
+-- with one mark for each line, some reply refuses or none does, and this is so of the summary. There is a reply to each line. Some
+-- reply refuses exactly where memory was missing at some line; and where it was there at the eight lines before the edits, just the
+-- lines are refused at which it was missing
 pub record Summed (seed edits : ℕ) (some : Bool) (IsWritten : List ℕ → Type 0) : Type 0 where
   pub marks : List Mark
   pub each : length marks ≡ edits + 14
   pub own : list_all is_own marks ≡ true
+  pub lines : length (replies_of seed edits marks) ≡ edits + 14
+  pub all : fine_in (replies_of seed edits marks)
+      + refused_in (replies_of seed edits marks) ≡ edits + 14
   pub refused : some_no (replies_of seed edits marks) ≡ some
+  pub lacking : some ≡ list_any lacks_memory marks
+  pub just : list_any lacks_memory (take 8 marks) ≡ false
+      → map is_no (replies_of seed edits marks) ≡ map lacks_memory marks
   pub written : IsWritten (summary_of edits (replies_of seed edits marks))
 
 -- what is written of a generated script: the summary, a front of it and not all where the sink failed, or nothing for want of memory

@@ -4,7 +4,7 @@ ghost use Rattle.std.specs.Prelude.{◌≡◌, ◌+◌, ◌<◌, ◌^◌, ◌++�
 ghost use Rattle.std.specs.FinMap as finite;
 ghost use Rattle.evm_model.specs.Scene.{start};
 ghost use Rattle.evm_outside.specs.Shelves.{is_file_name};
-ghost use Rattle.evm_tool.specs.Generated.{RepliesTo, Counts, SoFar, Sums, Generates, summary_by};
+ghost use Rattle.evm_tool.specs.Generated.{RepliesTo, Counts, SoFar, Sums, Generates, summary_by, RefusalsAreLacks, NoneRefusedWithMemory};
 ghost use Rattle.evm_tool.specs.Top.{WriteFaults};
 
 use super::send::send;
@@ -119,6 +119,17 @@ fn reply_to<M: Meter>(
     }
 }
 
+/// Which lines of a generated script are refused.
+///
+/// - `just`: where memory was there at each of the eight lines before the edits, just those at which it was missing.
+/// - `some`: some line exactly where memory was missing at some line.
+fn generated_lines_lack_memory_alone()
+    ensures just { RefusalsAreLacks }
+    ensures some { NoneRefusedWithMemory }
+{
+    generated_scripts_are_as_stated();
+}
+
 /// Answers each line of a generated script in a new session.
 fn tally_of(alloc: Global, seed: u64, edits: u32) -> Result<Tally, NoMemory>
     ensures { IfOk result (λ tally. Sums seed edits tally.fine tally.refused tally.last.items) }
@@ -148,6 +159,7 @@ pub fn answer_generated<O: Sink>(alloc: Global, seed: u64, edits: u32, output: &
     ensures text { Generates result seed edits (O.written output.old) (O.written output.new) }
     ensures faults { WriteFaults result (O.faults output.old) (O.faults output.new) }
 {
+    generated_lines_lack_memory_alone();
     let Ok(tally) = tally_of(alloc, seed, edits) else {
         return Status::NoMemory;
     };

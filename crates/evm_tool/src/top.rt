@@ -125,12 +125,12 @@ pub fn evm_main<I: Source, O: Sink, S: Shelf, M: Meter>(
     requires { (k : ℕ) (m : M) → slice_get meters.items k ≡ Some m
         → (M.reading m ≡ None) × (M.pending m ≡ None) }
     // For `gen` there is a mark for each line of the generated script, none or that memory was missing, so that the summary of the
-    // run with these marks was written whole at status 0 and 1, at 1 exactly where it refuses a line; a front of it at 4; nothing
-    // at 5; and no other status comes. For `run` some bytes were taken, whatever the source tells of them, and the first k of their
-    // lines were answered in order, with exactly this number k of marks: all at status 0 and 1; at 3 those that an LF ends; at 6
-    // those that an LF ends among the bytes that a script may have; at 4 those up to the one whose reply was cut, and at most one
-    // piece was taken after it; none at 2 and 5, at which no byte was taken. Replies, files and the shelf's counts are those of the
-    // run of these k lines.
+    // run with these marks was written whole at status 0 and 1, at 1 exactly where it refuses a line, which is exactly where
+    // memory was missing at some line; a front of it at 4; nothing at 5; and no other status comes. For `run` some bytes were
+    // taken, whatever the source tells of them, and the first k of their lines were answered in order, with exactly this number k
+    // of marks: all at status 0 and 1; at 3 those that an LF ends; at 6 those that an LF ends among the bytes that a script may
+    // have; at 4 those up to the one whose reply was cut, and at most one piece was taken after it; none at 2 and 5, at which no
+    // byte was taken. Replies, files and the shelf's counts are those of the run of these k lines.
     ensures run { Does (form_of_words (map string_bytes words.now))
         (map (λ m. M.kind m) meters.items) result
         (I.left input.old) (I.left input.new) (O.written output.old) (O.written output.new)
