@@ -120,7 +120,7 @@ module _ (t : Table) (name : List ℕ) (f : Formula) (well : IsWell (scene_of t)
     -- the scene that is left moves a cell out of the limits where the formula does
     pub new_left : ((x : List ℕ) → kept t x ≡ value (scene_of t) x) → all_stay (with_formula (scene_of t) name f) ≡ formula_stays f (kept t)
     new_left values =
-        ap (λ (b : Bool). all_stay (cond {A = Scene} b (record { entries = with_entry (entries_of t) name (record { name = name; dim = formula_dim (scene_of t) f; what = Made f }) })
+        ap (λ (b : Bool). all_stay (cond {A = Scene} b (record { entries = with_entry (entries_of t) name (record { name = name; dim = formula_dim (scene_of t) f; what = Made f }); slots = [] })
         (with_new (scene_of t) name (formula_dim (scene_of t) f) (Made f)))) absent
         ∙ stay_new (scene_of t) name (formula_dim (scene_of t) f) (Made f) well absent (λ o m. stands_at t o ∙ operand_present o m)
         ∙ formula_stays_same f (value (scene_of t)) (kept t) (λ o m. sym (values o))
@@ -131,8 +131,8 @@ module _ (t : Table) (name : List ℕ) (f : Formula) (well : IsWell (scene_of t)
         → (model.refusal (scene_of t) (model.Def name f) ≡ None) × (scene_of u ≡ with_formula (scene_of t) name f) × (0 ≡ model.changed (scene_of t) (model.Def name f))
     new_done u n solid fits e range stay h = (
       not_refused (scene_of t) name f full no_input no_cycle (dim_missed ∙ ap not fits) range stay,
-      ap (λ (es : List Entry). record { entries = es }) (h ∙ ap (λ (k : ℕ). entries_of t ++ record { name = name; dim = k; what = Made f } ∷ []) e)
-          ∙ sym (ap (λ (b : Bool). cond {A = Scene} b (record { entries = with_entry (entries_of t) name (record { name = name; dim = formula_dim (scene_of t) f; what = Made f }) })
+      ap (λ (es : List Entry). record { entries = es; slots = [] }) (h ∙ ap (λ (k : ℕ). entries_of t ++ record { name = name; dim = k; what = Made f } ∷ []) e)
+          ∙ sym (ap (λ (b : Bool). cond {A = Scene} b (record { entries = with_entry (entries_of t) name (record { name = name; dim = formula_dim (scene_of t) f; what = Made f }); slots = [] })
           (with_new (scene_of t) name (formula_dim (scene_of t) f) (Made f))) absent),
       new_changes_none (scene_of t) (model.Def name f) well absent,
     )

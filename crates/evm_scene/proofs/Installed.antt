@@ -105,18 +105,34 @@ module _ (t u : Table) (order front reach : List (List ℕ)) (name : List ℕ) (
       some_change : (a b : Change) → Some a ≡ Some b → a ≡ b
       some_change a b h = cc
 
+  free : (o : List ℕ) → is_among o (operands f) ≡ true → is_among o reach ≡ false
+  free o k = meets_none reach (operands f) miss o k
+
+  stands_from : (o : Option Node) → node_at t name ≡ o → is_some o ≡ true → (x : List ℕ) → is_some (node_at u x) ≡ is_some (node_at t x)
+  stands_from None at h = absurd (true≢false (sym h))
+  stands_from (Some m) at h =
+      redefined_stands t u order front reach name f (with_made m f installed.own.after) ((name, redefined.own) ∷ []) p
+      before parted redefined.carried (here m at) refl (ap node_dim (sym at)) own_solid own_value stay fits places size stands present free
+
+  values_from : (o : Option Node) → node_at t name ≡ o → is_some o ≡ true → (x : List ℕ) → is_some (node_at t x) ≡ true → moved t p x ≡ kept u x
+  values_from None at h = absurd (true≢false (sym h))
+  values_from (Some m) at h =
+      redefined_values t u order front reach name f (with_made m f installed.own.after) ((name, redefined.own) ∷ []) p
+      before parted redefined.carried (here m at) refl (ap node_dim (sym at)) own_solid own_value stay fits places size stands present free
+
+  -- the same names stand, with the figures that the changes made
+  pub installed_stands : (x : List ℕ) → is_some (node_at u x) ≡ is_some (node_at t x)
+  installed_stands = stands_from (node_at t name) refl stands
+
+  pub installed_values : (x : List ℕ) → is_some (node_at t x) ≡ true → moved t p x ≡ kept u x
+  installed_values = values_from (node_at t name) refl stands
+
   count_from : IsDistinct bytes_eq (keys_of t) → (o : Option Node) → node_at t name ≡ o → is_some o ≡ true → n ≡ changed_names (scene_of t) (scene_of u)
   count_from names None at h = absurd (true≢false (sym h))
   count_from names (Some m) at h =
       count_carried t u order (front ++ reach) front name redefined.own p installed.rest before installed_kept names redefined.carried stands own_change
-      (redefined_stands t u order front reach name f (with_made m f installed.own.after) ((name, redefined.own) ∷ []) p
-      before parted redefined.carried (here m at) refl (ap node_dim (sym at)) own_solid own_value stay fits places size stands present free)
-      (redefined_values t u order front reach name f (with_made m f installed.own.after) ((name, redefined.own) ∷ []) p
-      before parted redefined.carried (here m at) refl (ap node_dim (sym at)) own_solid own_value stay fits places size stands present free)
+      (stands_from (Some m) at h) (values_from (Some m) at h)
       installed.without n (subst (λ (c : Change). IsCount c p installed.rest n) same_change installed.count)
-    where
-      free : (o : List ℕ) → is_among o (operands f) ≡ true → is_among o reach ≡ false
-      free o k = meets_none reach (operands f) miss o k
 
   -- how many names change their cells
   pub installed_count : IsDistinct bytes_eq (keys_of t) → n ≡ changed_names (scene_of t) (scene_of u)

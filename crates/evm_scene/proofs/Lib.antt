@@ -17,6 +17,10 @@ pub mod Redefined
 pub mod Installed
 pub mod OwnLast
 pub mod Counted
+pub mod Placed
+pub mod Watching
+pub mod Slotted
+pub mod Handed
 pub mod Corners
 pub mod BoxChanges
 pub mod Causes

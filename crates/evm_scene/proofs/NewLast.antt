@@ -43,6 +43,9 @@ module _ (t u : Table) (order : List (List ℕ)) (name : List ℕ) (node : Node)
       by true d = absurd (true≢false (sym h ∙ ap (λ k. is_some (node_at t k)) (same_name o name d) ∙ ap (λ (o : Option Node). is_some o) fresh))
       by false d = d
 
+  pub others_kept : (x : List ℕ) → is_some (node_at t x) ≡ true → node_at u x ≡ node_at t x
+  others_kept x h = else_at x (standing_other x h)
+
   in_order : (x : List ℕ) → is_among x order ≡ true → bytes_eq x name ≡ false
   in_order x m = standing_other x (sym (before.whole x) ∙ m)
 

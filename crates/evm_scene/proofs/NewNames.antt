@@ -27,7 +27,7 @@ pub input_done : (t u : Table) (name : List ℕ) (dim : ℤ) (n : ℕ) (solid : 
     → (model.refusal (scene_of t) (model.Input name dim) ≡ None) × (scene_of u ≡ with_new (scene_of t) name (nat_abs dim) (Given [])) × (0 ≡ model.changed (scene_of t) (model.Input name dim))
 input_done t u name dim n solid well fresh fits size empty e = (
   input_refusal t name dim false true fresh fits,
-  ap (λ (es : List Entry). record { entries = es })
+  ap (λ (es : List Entry). record { entries = es; slots = [] })
       (e
       ∙ ap (λ (S : List (List ℤ)). entries_of t ++ record { name = name; dim = n; what = Given S } ∷ []) (no_cells solid n empty)
       ∙ ap (λ (k : ℕ). entries_of t ++ record { name = name; dim = k; what = Given [] } ∷ []) size),

@@ -92,7 +92,7 @@ module _ (t : Table) (order : List (List ℕ)) (name : List ℕ) (old p q : Pend
 
   pub input_scene : scene_of (put_solid (put_all t q) name seed.after) ≡ with_figure (scene_of t) name (figure_of seed.after)
   input_scene =
-      ap (λ (es : List Entry). record { entries = es })
+      ap (λ (es : List Entry). record { entries = es; slots = [] })
       (input_view ∙ ap (λ (n : ℕ). with_entry (entries_of t) name (record { name = name; dim = n; what = Given (cells seed.after.dim seed.after.rows) })) (sym seed_dim))
 
 -- the change that was noted for the name itself

@@ -19,7 +19,7 @@ use Rattle.evm_scene.specs.declared.edit.Refusal.TheVariants.{Name, Taken, Kind,
 use Rattle.evm_scene.specs.declared.node.Node.{Node}
 use Rattle.evm_scene.specs.Tables.{Table, figure_of, node_at, reads_at, kept, dim_at, is_made, entries_of, scene_of}
 use Rattle.evm_scene.specs.Orders.{IsKept, meets, Parted}
-use Rattle.evm_scene.specs.Changes.{Pending, IsRedefined, IsInstalled}
+use Rattle.evm_scene.specs.Changes.{Pending, moved, IsRedefined, IsInstalled}
 use Rattle.evm_scene.specs.Applied.{Applies}
 use Rattle.evm_scene.specs.Refused.{of_delta_error}
 use Rattle.evm_scene.specs.Definitions.{IsFree}
@@ -27,7 +27,7 @@ use Rattle.evm_scene.proofs.Views.{stands_at, dim_is, input_at, is_given}
 use Rattle.evm_scene.proofs.Causes.{other_stands, sized_in, not_refused}
 use Rattle.evm_scene.proofs.Wells.{entries_apart, well_kept, shown_stay}
 use Rattle.evm_scene.proofs.Stuck.{left_is}
-use Rattle.evm_scene.proofs.Installed.{installed_kept, installed_view, installed_count, cycle_is}
+use Rattle.evm_scene.proofs.Installed.{installed_kept, installed_stands, installed_values, installed_view, installed_count, cycle_is}
 
 -- a refusal by a cycle
 pub unfree : (e : Refusal) (t : Table) (order : List (List ℕ)) (name : List ℕ) (f : Formula) (edit : model.Edit) → IsFree (Err e) t order name f
@@ -99,15 +99,24 @@ module _ (t u : Table) (order o2 front reach whole : List (List ℕ)) (name : Li
       subst (λ l. IsKept u l) (sym e)
       (installed_kept t u order front reach name f p n before parted_here redefined_here stay installed (sized_in t f (dim_at t name) own_dim fits range) standing present miss)
 
+  -- the same names stand, with the figures that the changes made
+  pub end_stands : (x : List ℕ) → is_some (node_at u x) ≡ is_some (node_at t x)
+  end_stands =
+      installed_stands t u order front reach name f p n before parted_here redefined_here stay installed (sized_in t f (dim_at t name) own_dim fits range) standing present miss
+
+  pub end_values : (x : List ℕ) → is_some (node_at t x) ≡ true → moved t p x ≡ kept u x
+  end_values =
+      installed_values t u order front reach name f p n before parted_here redefined_here stay installed (sized_in t f (dim_at t name) own_dim fits range) standing present miss
+
   -- the scene with the formula in the name's place
   abbrev stood : ℕ → List Entry
   stood k = with_entry (entries_of t) name (record { name = name; dim = k; what = Made f })
 
   end_view : scene_of u ≡ with_formula (scene_of t) name f
   end_view =
-      ap (λ (es : List Entry). record { entries = es })
+      ap (λ (es : List Entry). record { entries = es; slots = [] })
       (installed_view t u order front reach name f p n before parted_here redefined_here stay installed (sized_in t f (dim_at t name) own_dim fits range) standing present miss ∙ ap stood own_dim)
-      ∙ sym (ap (λ (b : Bool). cond {A = Scene} b (record { entries = stood (formula_dim (scene_of t) f) }) (with_new (scene_of t) name (formula_dim (scene_of t) f) (Made f))) (stands_at t name ∙ standing))
+      ∙ sym (ap (λ (b : Bool). cond {A = Scene} b (record { entries = stood (formula_dim (scene_of t) f); slots = [] }) (with_new (scene_of t) name (formula_dim (scene_of t) f) (Made f))) (stands_at t name ∙ standing))
 
   -- no formula moves a cell out of the limits there
   end_stay : IsDistinct bytes_eq (keys_of t) → all_stay (with_formula (scene_of t) name f) ≡ true

@@ -25,7 +25,7 @@ module _ (t : Table) (order : List (List ℕ)) (name : List ℕ) (f : Formula) (
   entry = record { name = name; dim = formula_dim (scene_of t) f; what = Made f }
 
   abbrev placed : Scene
-  placed = record { entries = with_entry (entries_of t) name entry }
+  placed = record { entries = with_entry (entries_of t) name entry; slots = [] }
 
   abbrev left : Scene
   left = with_formula (scene_of t) name f

@@ -2,13 +2,14 @@
 use Rattle.std.proofs.Common.{◌≡◌, ℕ, ◌+◌, Bool, true, false, cond, not, ◌&&◌, ◌||◌, List, [], ◌∷◌, length, filter, Option, None, refl, sym, ap, subst, ◌∙◌, true≢false, is_some, bytes_eq, arith}
 use Rattle.std.specs.Map.{remove_entry}
 use Rattle.evm_model.specs.Orders.{is_among, Ordered}
-use Rattle.evm_model.specs.Scene.{is_read, without_entry, without_name, IsWell}
+use Rattle.evm_model.specs.Scene.{Slot, is_read, without_entry, without_name, IsWell}
 use Rattle.evm_model.specs.Edits as model
 use Rattle.evm_model.proofs.Names.{by_name, name_itself, name_sym, different_names, or_left, among_none, among_filter}
 use Rattle.evm_model.proofs.Orders.{ordered_filter}
 use Rattle.evm_model.proofs.Counts.{same_length, ordered_differ}
 use Rattle.evm_model.proofs.WellEdits.{unread}
 use Rattle.evm_model.proofs.ChangeLaws.{drop_gone}
+use Rattle.evm_model.proofs.SlotLaws.{with_slots, some_watches}
 use Rattle.evm_scene.specs.declared.node.Node.{Node}
 use Rattle.evm_scene.specs.Tables.{Table, node_at, node_reads, reads_at, node_value, node_stays, node_figure, kept, node_dim, dim_at, NodeSized, entry_view, entries_of, scene_of}
 use Rattle.evm_scene.specs.Orders.{IsKept, is_other}
@@ -105,17 +106,21 @@ less_by n m true e h = e
 less_by n m false e h = absurd (true≢false (sym h))
 
 -- what refuses a drop
-pub drop_refusal : (t : Table) (name : List ℕ) (s r : Bool) → is_some (node_at t name) ≡ s → is_read (scene_of t) name ≡ r
-    → model.refusal (scene_of t) (model.Drop name) ≡ model.first_cause ((not s, model.Name) ∷ (r, model.Used) ∷ [])
-drop_refusal t name s r e f =
-    ap (λ (b : Bool). model.first_cause ((not b, model.Name) ∷ (is_read (scene_of t) name, model.Used) ∷ [])) (stands_at t name ∙ e)
-    ∙ ap (λ (b : Bool). model.first_cause ((not s, model.Name) ∷ (b, model.Used) ∷ [])) f
+pub drop_refusal : (t : Table) (slots : List Slot) (name : List ℕ) (s r w : Bool) → is_some (node_at t name) ≡ s → is_read (scene_of t) name ≡ r → some_watches slots name ≡ w
+    → model.refusal (with_slots (scene_of t) slots) (model.Drop name) ≡ model.first_cause ((not s, model.Name) ∷ (r || w, model.Used) ∷ [])
+drop_refusal t slots name s r w e f h =
+    λ i. model.first_cause ((not ((stands_at t name ∙ e) i), model.Name) ∷ (f i || h i, model.Used) ∷ [])
 
 -- a drop that is done
-pub drop_done : (t u : Table) (name : List ℕ) → IsWell (scene_of t) → is_some (node_at t name) ≡ true → is_read (scene_of t) name ≡ false → u ≡ remove_entry (bytes_eq name) t
-    → (model.refusal (scene_of t) (model.Drop name) ≡ None) × (scene_of u ≡ without_name (scene_of t) name) × (0 ≡ model.changed (scene_of t) (model.Drop name))
-drop_done t u name well s r e = (
-  drop_refusal t name true false s r,
-  λ i. record { entries = (ap entries_of e ∙ view_removed t name) i },
-  none_changed (scene_of t) (model.Drop name) well r (λ st. drop_gone (scene_of t) name well),
+pub drop_done : (t u : Table) (slots : List Slot) (name : List ℕ) → IsWell (with_slots (scene_of t) slots) → is_some (node_at t name) ≡ true → is_read (scene_of t) name ≡ false → some_watches slots name ≡ false
+    → u ≡ remove_entry (bytes_eq name) t
+    → (model.refusal (with_slots (scene_of t) slots) (model.Drop name) ≡ None) × (with_slots (scene_of u) slots ≡ without_name (with_slots (scene_of t) slots) name) × (0 ≡ model.changed (with_slots (scene_of t) slots) (model.Drop name))
+drop_done t u slots name well s r w e = (
+  drop_refusal t slots name true false false s r w,
+  λ i. record { entries = (ap entries_of e ∙ view_removed t name) i; slots = slots },
+  none_changed (with_slots (scene_of t) slots) (model.Drop name) well r (λ st. drop_gone (with_slots (scene_of t) slots) name well),
 )
+
+-- each name but the one that is taken out has the node that it had
+pub node_else : (t u : Table) (name : List ℕ) → ((x : List ℕ) → node_at u x ≡ cond (bytes_eq name x) None (node_at t x)) → (x : List ℕ) → bytes_eq name x ≡ false → node_at u x ≡ node_at t x
+node_else t u name places x d = places x ∙ ap (λ b. cond b None (node_at t x)) d

@@ -1,5 +1,6 @@
 -- A table in order shows a well scene, and edits of names that no other reads change no other value.
 use Rattle.std.proofs.Common.{◌≡◌, ℕ, Bool, true, not, ◌||◌, List, [], ◌∷◌, Option, None, Some, refl, sym, ap, subst, ◌∙◌, map, pos, bytes_eq}
+use Rattle.std.proofs.lemmas.Bool.{false≢true}
 use Rattle.std.specs.Prelude.{option_map}
 use Rattle.std.specs.List.{list_any, IsDistinct}
 use Rattle.evm_cells.specs.Limits.{IsCellSet}
@@ -83,6 +84,7 @@ module _ (t : Table) (order : List (List ℕ)) (k : IsKept t order) where
     stay = kept_stay (entries_apart t distinct);
     stand = (ordered_stand (scene_of t) order (order_kept t order k)).0;
     acyclic = (ordered_stand (scene_of t) order (order_kept t order k)).1;
+    watched = λ x h. absurd (false≢true h);
   }
 
 -- the same of the scene that a table shows

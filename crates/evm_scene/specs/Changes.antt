@@ -112,6 +112,15 @@ pub record IsStuck (t : Table) (name : List ℕ) (new : Figure) : Type 0 where
   pub halted : IsHalted t name ((name, own) ∷ [])
   pub value : figure_of own.after ≡ new
 
+-- the changes that follow from that of an input are in place; n of them are changes of cells
+pub record IsPlaced (t u : Table) (name : List ℕ) (p : Pending) (n : ℕ) : Type 0 where
+  pub rest : Pending
+  pub own : Change
+  pub here : change_at p name ≡ Some own
+  pub without : (x : List ℕ) → change_at rest x ≡ cond (bytes_eq name x) None (change_at p x)
+  pub placed : u ≡ put_solid (put_all t rest) name own.after
+  pub count : IsCount own p rest n
+
 -- the changes of a formula and of the names that read it are in place; n of them are changes of cells
 pub record IsInstalled (t u : Table) (name : List ℕ) (f : Formula) (p : Pending) (n : ℕ) : Type 0 where
   pub rest : Pending

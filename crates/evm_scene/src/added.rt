@@ -46,6 +46,8 @@ pub fn add(
         (entries_of table.new.entries
         ≡ entries_of table.old.entries ++ entry_view (name, node) ∷ []) }
     ensures err { OnErr result (table.new.entries ≡ table.old.entries) }
+    ensures others { (x : List ℕ) → is_some (node_at table.old.entries x) ≡ true
+        → node_at table.new.entries x ≡ node_at table.old.entries x }
 {
     if order.reserve(1).is_err() {
         return Err(NoMemory);
@@ -72,6 +74,8 @@ pub fn input(
     ensures kept { IsKept table.new.entries order.new.items }
     ensures applies { Applies result (scene_of table.old.entries) (scene_of table.new.entries)
         (model.Input name dim) }
+    ensures others { (x : List ℕ) → is_some (node_at table.old.entries x) ≡ true
+        → node_at table.new.entries x ≡ node_at table.old.entries x }
 {
     if table.contains_key(&name) {
         return Err(Refusal::Taken);

@@ -155,7 +155,7 @@ pub fn edit_by_box<M: Meter>(
     name: &Name,
     nums: &Nums,
 ) -> Result<Changed, Refusal>
-    requires { IsKept table.old.entries order.now }
+    requires kept { IsKept table.old.entries order.now }
     requires watched { IsWatched table.old.entries slots.old }
     ensures kept { IsKept table.new.entries order.now }
     ensures applies { Applies result (scene_of table.old.entries) (scene_of table.new.entries)

@@ -47,6 +47,8 @@ fn make(
     ensures kept { IsKept table.new.entries order.new.items }
     ensures applies { Applies result (scene_of table.old.entries) (scene_of table.new.entries)
         (model.Def name formula) }
+    ensures others { (x : List ℕ) → is_some (node_at table.old.entries x) ≡ true
+        → node_at table.new.entries x ≡ node_at table.old.entries x }
 {
     if names(&formula, &name) {
         return Err(Refusal::Cycle);
@@ -255,7 +257,8 @@ fn fitting(table: &IndexMap<Name, Node>, name: &Name, formula: &Formula) -> Opti
     }
 }
 
-/// Another formula under a name that stands for one. All changes are made before the first is put in place.
+/// Another formula under a name that stands for one. All changes are made and the meters of the watched
+/// names prepared before the first change is put in place.
 fn redefine<M: Meter>(
     alloc: Global,
     table: &mut IndexMap<Name, Node>,
@@ -292,9 +295,9 @@ fn redefine<M: Meter>(
     let Ok(whole) = joined(parts) else {
         return Err(Refusal::NoMemory);
     };
-    if prepare(alloc, table, slots, &pending).is_err() {
+    let Ok(()) = prepare(alloc, table, slots, &pending) else {
         return Err(Refusal::NoMemory);
-    }
+    };
     let names = install(table, pending, name, formula);
     slots.commit();
     *order = whole;

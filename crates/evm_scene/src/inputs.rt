@@ -7,7 +7,7 @@ ghost use Rattle.evm_model.specs.Edits.{changed_names};
 ghost use Rattle.evm_scene.specs.Tables.{node_at, kept, is_made, figure_of, scene_of};
 ghost use Rattle.evm_scene.specs.Watched.{IsWatched, StaysWatched};
 ghost use Rattle.evm_scene.specs.Orders.{IsKept};
-ghost use Rattle.evm_scene.specs.Changes.{IsChange, IsCarried, IsHalted};
+ghost use Rattle.evm_scene.specs.Changes.{change_at, IsChange, IsCarried, IsHalted, IsPlaced};
 
 use super::carry::{carry, put};
 use super::commit::{commit, set_solid, take_own};
@@ -70,9 +70,27 @@ pub fn changes(
     Ok(pending)
 }
 
+/// Puts all changes in place, that of `name` last, and answers how many names changed their cells. Nothing here can fail.
+fn put_in_place(
+    table: &mut IndexMap<Name, Node>,
+    mut pending: IndexMap<Name, Change>,
+    name: &Name,
+) -> usize
+    requires { is_some (change_at pending.entries name.now) ≡ true }
+    ensures { IsPlaced table.old.entries table.new.entries name.now pending.entries result }
+{
+    let own = take_own(&mut pending, name);
+    let names = own.names;
+    let last = own.change;
+    commit(table, pending);
+    set_solid(table, name, last.after);
+    names
+}
+
 /// Gives an input another solid, and each name that reads it its new one. Answers how many names changed their cells.
 ///
-/// All changes are made before the first is put in place, so a failure leaves the table as it is. It is `Range` only where
+/// All changes are made and the meters of the watched names prepared before the first change is put in place, so a failure leaves
+/// the table and all readings as they are. It is `Range` only where
 /// some formula of the scene with the other solid would move a cell out of the limits.
 pub fn set_input<M: Meter>(
     alloc: Global,
@@ -103,13 +121,9 @@ pub fn set_input<M: Meter>(
     ensures watched { StaysWatched table.new.entries slots.old slots.new }
 {
     let _names = table.len();
-    let mut pending = changes(alloc, table, order, name, change)?;
+    let pending = changes(alloc, table, order, name, change)?;
     prepare(alloc, table, slots, &pending)?;
-    let own = take_own(&mut pending, name);
-    let names = own.names;
-    let last = own.change;
-    commit(table, pending);
-    set_solid(table, name, last.after);
+    let names = put_in_place(table, pending, name);
     slots.commit();
     Ok(names)
 }

@@ -77,7 +77,10 @@ pub fn remove<M: Meter>(
     if !table.contains_key(name) {
         return Err(Refusal::Name);
     }
-    if is_used(table, order.as_slice(), name) || slots.watches(name) {
+    if is_used(table, order.as_slice(), name) {
+        return Err(Refusal::Used);
+    }
+    if slots.watches(name) {
         return Err(Refusal::Used);
     }
     table.shift_remove(name);

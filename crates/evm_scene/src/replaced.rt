@@ -58,7 +58,7 @@ pub fn replace<M: Meter>(
     name: &Name,
     solid: Solid,
 ) -> Result<Changed, Refusal>
-    requires { IsKept table.old.entries order.now }
+    requires kept { IsKept table.old.entries order.now }
     requires watched { IsWatched table.old.entries slots.old }
     ensures kept { IsKept table.new.entries order.now }
     ensures applies { Applies result (scene_of table.old.entries) (scene_of table.new.entries)

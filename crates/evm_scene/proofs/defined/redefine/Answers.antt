@@ -10,30 +10,31 @@ use Rattle.evm_scene.specs.Changes.{IsStuck}
 use Rattle.evm_scene.proofs.Causes.{refused_cycle, refused_dim, refused_range, unmade}
 use Rattle.evm_scene.proofs.Wells.{well_kept}
 use Rattle.evm_scene.proofs.Stuck.{own_out, stuck_out, both_out}
-use Rattle.evm_scene.proofs.Reformed.{unfree, unmoved, end_kept, end_applies, made_stands, made_no_input, operands_present}
+use Rattle.evm_scene.proofs.Reformed.{unfree, unmoved, end_kept, end_stands, end_values, end_applies, made_stands, made_no_input, operands_present}
+use Rattle.evm_scene.proofs.Watching.{all_committed}
 use Rattle.evm_scene.proofs.defined.redefine.Goals as goal
 
 pub free_parts-requires-clause-present : goal.free_parts-requires-clause-present
-free_parts-requires-clause-present c =
+free_parts-requires-clause-present g c =
     let t = c.args.table.now.entries in operands_present t c.args.name.now c.args.formula (made_stands t c.args.name.now c.requires.made) c.requires.present
 
 pub returns-in-Err-clause-applies : goal.returns-in-Err-clause-applies
-returns-in-Err-clause-applies c =
+returns-in-Err-clause-applies g c =
     let t = c.args.table.now.entries in
     unfree c.in-Err.refusal t _ c.args.name.now c.args.formula _ c.in-Err.ensures
     (refused_cycle (scene_of t) c.args.name.now c.args.formula c.requires.present (made_no_input t c.args.name.now c.requires.made))
 
 pub returns-in_default-clause-applies : goal.returns-in_default-clause-applies
-returns-in_default-clause-applies c =
+returns-in_default-clause-applies g c =
     let t = c.args.table.now.entries in
     (refused_dim (scene_of t) c.args.name.now c.args.formula c.requires.present (made_no_input t c.args.name.now c.requires.made) c.in-Ok.ensures.0 c.in_default.ensures, refl)
 
 pub evaluate-requires-clause-present : goal.evaluate-requires-clause-present
-evaluate-requires-clause-present c =
+evaluate-requires-clause-present g c =
     let t = c.args.table.now.entries in operands_present t c.args.name.now c.args.formula (made_stands t c.args.name.now c.requires.made) c.requires.present
 
 pub returns-in-Err-evaluate-clause-applies : goal.returns-in-Err-evaluate-clause-applies
-returns-in-Err-evaluate-clause-applies c =
+returns-in-Err-evaluate-clause-applies g c =
     let t = c.args.table.now.entries in
     let standing = made_stands t c.args.name.now c.requires.made in
     unmade c.in-Err-evaluate.refusal (scene_of t) c.args.formula (kept t) _ _ c.in-Err-evaluate.ensures
@@ -43,7 +44,7 @@ returns-in-Err-evaluate-clause-applies c =
     standing (operands_present t c.args.name.now c.args.formula standing c.requires.present) c.in-Ok.ensures.0) h))
 
 pub returns-in-Err-reformed-clause-applies : goal.returns-in-Err-reformed-clause-applies
-returns-in-Err-reformed-clause-applies c =
+returns-in-Err-reformed-clause-applies g c =
     let t = c.args.table.now.entries in
     let standing = made_stands t c.args.name.now c.requires.made in
     let left = all_stay (with_formula (scene_of t) c.args.name.now c.args.formula) in
@@ -58,13 +59,23 @@ returns-in-Err-reformed-clause-applies c =
     (subst (λ (g : Figure). IsStuck t c.args.name.now g) c.in-Ok-evaluate.ensures.2.0 (c.in-Err-reformed.ensures.stuck (ap Err k))))))
 
 pub returns-clause-kept : goal.returns-clause-kept
-returns-clause-kept c =
+returns-clause-kept g c =
     end_kept _ _ _ _ _ _ _ _ _ _ _ c.in-Some.dim c.in-Ok-evaluate.after c.requires.kept c.as_slice.ensures.value c.in-Ok.ensures.1
     c.in-Ok-reformed.ensures.redefined c.in-Ok-evaluate.ensures.2.0 c.in-Ok-evaluate.ensures.1 c.install-names.ensures
     c.requires.made c.requires.present c.in-Ok.ensures.0 c.in-Some.ensures.0 c.in-Some.ensures.1 c.in-Some.ensures.2 c.in-Some.ensures.3 c.in-Ok-evaluate.ensures.0 c.in-Ok-joined.ensures
 
 pub returns-clause-applies : goal.returns-clause-applies
-returns-clause-applies c =
+returns-clause-applies g c =
     end_applies _ _ _ _ _ _ c.in-Ok-joined.whole.items _ _ _ _ c.in-Some.dim c.in-Ok-evaluate.after c.requires.kept c.as_slice.ensures.value c.in-Ok.ensures.1
     c.in-Ok-reformed.ensures.redefined c.in-Ok-evaluate.ensures.2.0 c.in-Ok-evaluate.ensures.1 c.install-names.ensures
     c.requires.made c.requires.present c.in-Ok.ensures.0 c.in-Some.ensures.0 c.in-Some.ensures.1 c.in-Some.ensures.2 c.in-Some.ensures.3 c.in-Ok-evaluate.ensures.0 c.len-names.ensures.unique
+
+pub returns-clause-watched : goal.returns-clause-watched
+returns-clause-watched g c =
+    all_committed _ _ _ _ _ _ c.requires.watched c.in-Ok-prepare.ensures.ok c.commit.ensures
+    (end_values _ _ _ _ _ _ c.in-Ok-joined.whole.items _ _ _ _ c.in-Some.dim c.in-Ok-evaluate.after c.requires.kept c.as_slice.ensures.value c.in-Ok.ensures.1
+    c.in-Ok-reformed.ensures.redefined c.in-Ok-evaluate.ensures.2.0 c.in-Ok-evaluate.ensures.1 c.install-names.ensures
+    c.requires.made c.requires.present c.in-Ok.ensures.0 c.in-Some.ensures.0 c.in-Some.ensures.1 c.in-Some.ensures.2 c.in-Some.ensures.3 c.in-Ok-evaluate.ensures.0)
+    (end_stands _ _ _ _ _ _ c.in-Ok-joined.whole.items _ _ _ _ c.in-Some.dim c.in-Ok-evaluate.after c.requires.kept c.as_slice.ensures.value c.in-Ok.ensures.1
+    c.in-Ok-reformed.ensures.redefined c.in-Ok-evaluate.ensures.2.0 c.in-Ok-evaluate.ensures.1 c.install-names.ensures
+    c.requires.made c.requires.present c.in-Ok.ensures.0 c.in-Some.ensures.0 c.in-Some.ensures.1 c.in-Some.ensures.2 c.in-Some.ensures.3 c.in-Ok-evaluate.ensures.0)

@@ -10,12 +10,12 @@ turned a true e = ap not (sym e)
 turned a false e = ap not (sym e)
 
 pub returns-in_default : goal.returns-in_default
-returns-in_default c =
+returns-in_default g c =
     subst (λ (s : Scene). stands s c.args.name.now ≡ false) c.self.view_is
     (stands_at c.self.inside.table.entries c.args.name.now ∙ ap (λ (o : Option Node). is_some o) (sym c.in_default.ensures.value))
 
 pub returns : goal.returns
-returns c =
+returns g c =
     let at : node_at c.self.inside.table.entries c.args.name.now ≡ Some c.in-Some.node.now = sym c.in-Some.ensures.value in (
       subst (λ (s : Scene). stands s c.args.name.now ≡ true) c.self.view_is
           (stands_at c.self.inside.table.entries c.args.name.now ∙ ap (λ (o : Option Node). is_some o) at),

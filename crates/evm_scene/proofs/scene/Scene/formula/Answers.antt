@@ -7,12 +7,12 @@ use Rattle.evm_scene.proofs.Views.{formula_at, node_formula}
 use Rattle.evm_scene.proofs.scene.Scene.formula.Goals as goal
 
 pub returns-in_default : goal.returns-in_default
-returns-in_default c =
+returns-in_default g c =
     subst (λ (s : Scene). None ≡ formula_of s c.args.name.now) c.self.view_is
     (sym (formula_at c.self.inside.table.entries c.args.name.now ∙ ap node_formula (sym c.in_default.ensures.value)))
 
 pub returns : goal.returns
-returns c =
+returns g c =
     let at : node_at c.self.inside.table.entries c.args.name.now ≡ Some c.in-Some.node.now = sym c.in-Some.ensures.value in
     subst (λ (s : Scene). option_copied c.as_ref.result ≡ formula_of s c.args.name.now) c.self.view_is
     (c.as_ref.ensures.value ∙ sym (formula_at c.self.inside.table.entries c.args.name.now ∙ ap node_formula at))

@@ -1,0 +1,47 @@
+use Rattle.std.proofs.Common.{refl, sym, subst}
+use Rattle.evm_model.specs.Scene.{Scene, IsWell}
+use Rattle.evm_model.specs.Edits as model
+use Rattle.evm_model.proofs.SlotLaws.{well_bare}
+use Rattle.evm_scene.specs.declared.edit.Edit.{Edit}
+use Rattle.evm_scene.specs.Tables.{figure_of, scene_of}
+use Rattle.evm_scene.specs.Applied.{Applies, edit_view}
+use Rattle.evm_scene.specs.Watched.{slots_of, watched_scene}
+use Rattle.evm_scene.proofs.Watching.{watched_added}
+use Rattle.evm_scene.proofs.Slotted.{applies_watched}
+use Rattle.evm_scene.proofs.scene.Scene.apply.Goals as goal
+
+pub input-requires-clause-well : goal.input-requires-clause-well
+input-requires-clause-well g c =
+    well_bare (scene_of c.self.inside.table.entries) (slots_of c.self.inside.slots) (subst (λ (s : Scene). IsWell s) (sym c.self.view_is) c.facts.ensures)
+
+pub invariant_of-self : goal.invariant_of-self
+invariant_of-self g c = (
+  c.input.ensures.kept,
+  watched_added c.self.inside.table.entries c.input.new.table.entries c.self.inside.slots c.self.invariant.1 c.input.ensures.others,
+)
+
+pub returns-in-Input : goal.returns-in-Input
+returns-in-Input g c =
+    let old = c.self.inside.slots in
+    let end = watched_scene c.input.new.table.entries old in
+    subst (λ (s : Scene). Applies c.input.result s end (edit_view c.args.edit)) c.self.view_is
+    (subst (λ (e : Edit). Applies c.input.result (watched_scene c.self.inside.table.entries old) end (edit_view e)) (sym c.in-Input.is)
+    (applies_watched c.input.result c.self.inside.table.entries c.input.new.table.entries old old (model.Input c.in-Input.name c.in-Input.dim) refl c.input.ensures.applies refl))
+
+pub returns-in-Replace : goal.returns-in-Replace
+returns-in-Replace g c =
+    let old = c.self.inside.slots in
+    let end = watched_scene c.replace.new.table.entries c.replace.new.slots in
+    subst (λ (s : Scene). Applies c.replace.result s end (edit_view c.args.edit)) c.self.view_is
+    (subst (λ (e : Edit). Applies c.replace.result (watched_scene c.self.inside.table.entries old) end (edit_view e)) (sym c.in-Replace.is)
+    (applies_watched c.replace.result c.self.inside.table.entries c.replace.new.table.entries old c.replace.new.slots (model.Replace c.in-Replace.name (figure_of c.in-Replace.solid)) refl
+    c.replace.ensures.applies c.replace.ensures.watched.same))
+
+pub returns-in-Def : goal.returns-in-Def
+returns-in-Def g c =
+    let old = c.self.inside.slots in
+    let end = watched_scene c.define.new.table.entries c.define.new.slots in
+    subst (λ (s : Scene). Applies c.define.result s end (edit_view c.args.edit)) c.self.view_is
+    (subst (λ (e : Edit). Applies c.define.result (watched_scene c.self.inside.table.entries old) end (edit_view e)) (sym c.in-Def.is)
+    (applies_watched c.define.result c.self.inside.table.entries c.define.new.table.entries old c.define.new.slots (model.Def c.in-Def.name c.in-Def.formula) refl
+    c.define.ensures.applies c.define.ensures.watched.same))
