@@ -1,6 +1,6 @@
 //! Sessions, asked by each command and refused by each code, with replies worked out by hand.
 
-ghost use Rattle.std.specs.Prelude.{◌≡◌, ◌×◌, ℕ, None, Some, IfOk};
+ghost use Rattle.std.specs.Prelude.{◌≡◌, ℕ, None, Some, IfOk};
 ghost use Rattle.std.specs.List.{slice_get};
 ghost use Rattle.evm_meter.specs.declared.stock.StockMeter.{StockMeter};
 
@@ -246,11 +246,12 @@ fn meters(alloc: Global) -> Result<Vec<StockMeter>, AllocError>
     ensures { IfOk result (λ v. (k : ℕ) (m : StockMeter) → slice_get v.items k ≡ Some m
         → (m.reading ≡ None) × (m.pending ≡ None)) }
 {
-    vec![in alloc;
+    let meters = vec![in alloc;
         StockMeter::content(),
         StockMeter::boundary(),
         StockMeter::vertices(),
-    ]
+    ]?;
+    Ok(meters)
 }
 
 /// Asks a new session, over a shelf whose first call fails.
