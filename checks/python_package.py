@@ -338,6 +338,16 @@ def docstrings():
     assert done.attempted and not done.failed
 
 
+def documented():
+    """docs/PYTHON.md names all that can be called and caught."""
+    text = (TOP / "docs" / "PYTHON.md").read_text()
+    calls = {name for kind in (Scene, bothrelyd.Input, bothrelyd.Solid, bothrelyd.Meter) for name, what in vars(kind).items()
+             if not name.startswith("_") and (callable(what) or isinstance(what, property))}
+    faults = {name for name in bothrelyd.__all__ if issubclass(getattr(bothrelyd, name), Exception)}
+    silent = [name for name in sorted(calls | faults) if not re.search(rf"\b{name}\b", text)]
+    assert not silent, f"nothing is said of {silent}"
+
+
 def tour(code: str):
     """A block of docs/PYTHON.md, in a copy of the examples: it prints what its comments say."""
     if "numpy" in code and not HAS_NUMPY:
@@ -360,7 +370,7 @@ def trials():
     for dim in range(2, 7):
         yield f"questions in {dim} dimensions", lambda dim=dim: questions(dim)
         yield f"formulas in {dim} dimensions", lambda dim=dim: formulas(dim)
-    for trial in (names, many_edits, refusals, not_sent, files, meters, lost, full_disk, found, installed, docstrings, gallery):
+    for trial in (names, many_edits, refusals, not_sent, files, meters, lost, full_disk, found, installed, docstrings, documented, gallery):
         yield trial.__name__, trial
     for number, code in enumerate(BLOCK.findall((TOP / "docs" / "PYTHON.md").read_text()), 1):
         yield f"docs/PYTHON.md, block {number}", lambda code=code: tour(code)

@@ -126,7 +126,7 @@ class Scene:
 
     def drop(self, solid: Union[Solid, str]) -> None:
         """Takes out a name that was given here, by itself or by its handle. Refused with `InUse` while a formula or a meter reads it."""
-        name = words.name_word(solid if isinstance(solid, str) else solid.given_name)
+        name = words.name_word(solid if isinstance(solid, str) else solid._given_name)
         self.ask(f"drop {name}")
         self._named.pop(name, None)
 
