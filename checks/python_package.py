@@ -330,7 +330,13 @@ def installed():
         done = subprocess.run([sys.executable, "-m", "pip", *words, f"{folder}/source"], capture_output=True, text=True)
         assert done.returncode == 0, done.stderr
         assert (pathlib.Path(folder) / "target" / "bothrelyd" / "py.typed").exists()
-        assert python(LOOK, ENVIRONMENT | {"PYTHONPATH": f"{folder}/target"}) == "6\n"
+        there = {name: value for name, value in ENVIRONMENT.items() if name != "EVM"} | {"PYTHONPATH": f"{folder}/target", "PATH": ""}
+        assert python(LOOK, there | {"EVM": str(PROGRAM)}) == "6\n", "by EVM"
+        assert "./evm run" in python(LOOK, there), "a checkout without a program"
+        checkout = pathlib.Path(folder, bothrelyd.program.BUILT)
+        checkout.parent.mkdir(parents=True)
+        checkout.symlink_to(PROGRAM)
+        assert python(LOOK, there) == "6\n", "the checkout that it was installed from"
 
 
 def docstrings():

@@ -30,7 +30,8 @@ class Scene:
     Parameters
     ----------
     program : path, optional
-        The program `evm`. Without it, it is looked for: by the environment variable ``EVM``, beside this checkout, and on the path.
+        The program `evm`. Without it, it is looked for: by the environment variable ``EVM``, in the checkout that the package lies in or was
+        installed from, and on the path.
 
     Raises
     ------
