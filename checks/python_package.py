@@ -261,6 +261,13 @@ def lost():
         a = scene.input("a", 2)
     scene.close()
     refused(lambda: a.content, bothrelyd.ProgramLost)
+    refused(lambda: Scene("true").input("a", 2), bothrelyd.ProgramLost)
+    with Scene() as scene:
+        a, read = scene.input("a", 2), scene._program._line
+        scene._program._line = interrupt
+        refused(lambda: a.content, KeyboardInterrupt)
+        scene._program._line = read
+        refused(lambda: a.content, bothrelyd.ProgramLost)
     left = python("import bothrelyd\nscene = bothrelyd.Scene()\nprint(scene._files.path)").strip()
     assert left and not pathlib.Path(left).exists(), "a scene that was not closed leaves its folder"
     most = bothrelyd.program.MOST_BYTES
@@ -273,6 +280,10 @@ def lost():
             assert a.content == 25
     finally:
         bothrelyd.program.MOST_BYTES = most
+
+
+def interrupt():
+    raise KeyboardInterrupt
 
 
 FULL = """
