@@ -152,6 +152,20 @@ def thresholds():
         assert isinstance(rows, Vertices) and np.asarray(rows).shape == (len(rows), 1)
 
 
+def wide():
+    """Arrays whose parities are summed up in whole layers, and arrays that do not lie in the order of their axes."""
+    draw = random.Random(60)
+    for shape in ((30, 1100), (40, 6, 45), (5, 36, 37), (3, 4, 16, 24)):
+        array = np.array([draw.random() < 0.1 for _ in range(math.prod(shape))], dtype=bool).reshape(shape)
+        with Scene() as scene:
+            solid, turned = scene.input("a", array.ndim), scene.input("b", array.ndim)
+            solid.load(array)
+            same(solid.array((0,) * array.ndim, shape), array, "wide")
+            turned.load(array.T[::-1])
+            same(turned.array((0,) * array.ndim, shape[::-1]), array.T[::-1], "turned")
+            assert solid.content == turned.content == array.sum(), "content"
+
+
 def unfit():
     """Arrays that do not fit are refused before anything is sent."""
     flat, limit = np.ones((2, 2), dtype=bool), 2 ** 30
@@ -188,4 +202,5 @@ def trials(skipped: type, has_scipy: bool):
             yield f"{trial.__name__} in {dim} dimensions", lambda trial=trial, dim=dim: trial(dim)
         yield f"components in {dim} dimensions", (lambda dim=dim: components(dim)) if has_scipy else skip
     yield "thresholds", thresholds
+    yield "wide arrays", wide
     yield "arrays that do not fit", unfit

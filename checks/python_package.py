@@ -261,6 +261,13 @@ def lost():
         a = scene.input("a", 2)
     scene.close()
     refused(lambda: a.content, bothrelyd.ProgramLost)
+    refused(lambda: Scene("true").input("a", 2), bothrelyd.ProgramLost)
+    with Scene() as scene:
+        a, read = scene.input("a", 2), scene._program._line
+        scene._program._line = interrupt
+        refused(lambda: a.content, KeyboardInterrupt)
+        scene._program._line = read
+        refused(lambda: a.content, bothrelyd.ProgramLost)
     left = python("import bothrelyd\nscene = bothrelyd.Scene()\nprint(scene._files.path)").strip()
     assert left and not pathlib.Path(left).exists(), "a scene that was not closed leaves its folder"
     most = bothrelyd.program.MOST_BYTES
@@ -273,6 +280,10 @@ def lost():
             assert a.content == 25
     finally:
         bothrelyd.program.MOST_BYTES = most
+
+
+def interrupt():
+    raise KeyboardInterrupt
 
 
 FULL = """
@@ -330,12 +341,28 @@ def installed():
         done = subprocess.run([sys.executable, "-m", "pip", *words, f"{folder}/source"], capture_output=True, text=True)
         assert done.returncode == 0, done.stderr
         assert (pathlib.Path(folder) / "target" / "bothrelyd" / "py.typed").exists()
-        assert python(LOOK, ENVIRONMENT | {"PYTHONPATH": f"{folder}/target"}) == "6\n"
+        there = {name: value for name, value in ENVIRONMENT.items() if name != "EVM"} | {"PYTHONPATH": f"{folder}/target", "PATH": ""}
+        assert python(LOOK, there | {"EVM": str(PROGRAM)}) == "6\n", "by EVM"
+        assert "./evm run" in python(LOOK, there), "a checkout without a program"
+        checkout = pathlib.Path(folder, bothrelyd.program.BUILT)
+        checkout.parent.mkdir(parents=True)
+        checkout.symlink_to(PROGRAM)
+        assert python(LOOK, there) == "6\n", "the checkout that it was installed from"
 
 
 def docstrings():
     done = doctest.testmod(bothrelyd)
     assert done.attempted and not done.failed
+
+
+def documented():
+    """docs/PYTHON.md names all that can be called and caught."""
+    text = (TOP / "docs" / "PYTHON.md").read_text()
+    calls = {name for kind in (Scene, bothrelyd.Input, bothrelyd.Solid, bothrelyd.Meter) for name, what in vars(kind).items()
+             if not name.startswith("_") and (callable(what) or isinstance(what, property))}
+    faults = {name for name in bothrelyd.__all__ if issubclass(getattr(bothrelyd, name), Exception)}
+    silent = [name for name in sorted(calls | faults) if not re.search(rf"\b{name}\b", text)]
+    assert not silent, f"nothing is said of {silent}"
 
 
 def tour(code: str):
@@ -360,7 +387,7 @@ def trials():
     for dim in range(2, 7):
         yield f"questions in {dim} dimensions", lambda dim=dim: questions(dim)
         yield f"formulas in {dim} dimensions", lambda dim=dim: formulas(dim)
-    for trial in (names, many_edits, refusals, not_sent, files, meters, lost, full_disk, found, installed, docstrings, gallery):
+    for trial in (names, many_edits, refusals, not_sent, files, meters, lost, full_disk, found, installed, docstrings, documented, gallery):
         yield trial.__name__, trial
     for number, code in enumerate(BLOCK.findall((TOP / "docs" / "PYTHON.md").read_text()), 1):
         yield f"docs/PYTHON.md, block {number}", lambda code=code: tour(code)

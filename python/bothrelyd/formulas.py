@@ -36,7 +36,7 @@ class Formula(Solid):
         return self._name
 
     @property
-    def given_name(self) -> Optional[str]:
+    def _given_name(self) -> Optional[str]:
         """The name that it was given by `Scene.define`, if it was."""
         return None if self._is_own else self._name
 

@@ -35,7 +35,7 @@ class Input(Solid):
         """Its name in the program."""
         return self._name
 
-    given_name = name
+    _given_name = name
 
     def _edit_line(self, word: str, lo: words.Point, hi: words.Point) -> str:
         return f"{word} {self._name} {' '.join(map(str, words.box(lo, hi)))}"

@@ -1,17 +1,20 @@
 """Finds the program `evm`, starts `evm run`, and talks to it line by line."""
 from __future__ import annotations
 
+import json
 import os
 import shutil
 import subprocess
+from importlib import metadata
 from pathlib import Path
-from typing import List, Optional, Sequence, Union
+from typing import Iterator, List, Optional, Sequence, Union
+from urllib.parse import urlsplit
+from urllib.request import url2pathname
 
 from .errors import ProgramLost, ProgramMissing, Refused, ScriptFull, refusal
 
 VARIABLE = "EVM"
-TOP = Path(__file__).resolve().parents[2]
-BUILT = TOP / "crates" / "evm_tool" / "out" / "evm_tool"
+BUILT = Path("crates", "evm_tool", "out", "evm_tool")     # in a checkout
 MOST_BYTES = 67108864       # that one run reads
 AHEAD = 256                 # lines sent before their replies are read: these, of a line each, fit into the smallest pipe
 WAIT = 10                   # seconds, for the program to end by itself
@@ -20,8 +23,20 @@ LISTS = frozenset(("show", "section", "project", "list", "faces"))
 PathLike = Union[str, "os.PathLike[str]"]
 
 
+def checkouts() -> Iterator[Path]:
+    """The checkout that the package lies in, and the one from which it was installed, as pip notes it beside an installed package."""
+    yield Path(__file__).resolve().parents[2]
+    try:
+        noted = metadata.distribution(__package__).read_text("direct_url.json")
+    except metadata.PackageNotFoundError:
+        return
+    url = urlsplit(json.loads(noted)["url"] if noted else "")
+    if url.scheme == "file":
+        yield Path(url2pathname(url.path)).parent
+
+
 def find_program(program: Optional[PathLike] = None) -> str:
-    """The path of the program: the one that is given, that of the variable ``EVM``, the built one of this checkout, or ``evm`` on the path.
+    """The path of the program: the one that is given, that of the variable ``EVM``, the built one of the checkout, or ``evm`` on the path.
 
     Raises
     ------
@@ -29,10 +44,14 @@ def find_program(program: Optional[PathLike] = None) -> str:
         Where none of these is there, or what is given or in ``EVM`` is no program.
     """
     named = program or os.environ.get(VARIABLE)
-    found = shutil.which(os.fspath(named)) if named else str(BUILT) if os.access(BUILT, os.X_OK) else shutil.which("evm")
+    if named:
+        found = shutil.which(os.fspath(named))
+    else:
+        built = (str(top / BUILT) for top in checkouts() if os.access(top / BUILT, os.X_OK))
+        found = next(built, None) or shutil.which("evm")
     if found:
         return os.path.abspath(found)
-    where = f"{named} is no program" if named else f"there is no {BUILT}, {VARIABLE} is not set, and there is no evm on the path"
+    where = f"{named} is no program" if named else f"no checkout has a {BUILT}, {VARIABLE} is not set, and there is no evm on the path"
     raise ProgramMissing(
         f"{where}. To build it, run `./evm run < examples/first-run.evm` at the top of the repository, once (it proves the program first, "
         f"which takes about forty minutes, and needs `rt`); or set {VARIABLE} to a program that was built"

@@ -30,7 +30,8 @@ class Scene:
     Parameters
     ----------
     program : path, optional
-        The program `evm`. Without it, it is looked for: by the environment variable ``EVM``, beside this checkout, and on the path.
+        The program `evm`. Without it, it is looked for: by the environment variable ``EVM``, in the checkout that the package lies in or was
+        installed from, and on the path.
 
     Raises
     ------
@@ -126,7 +127,7 @@ class Scene:
 
     def drop(self, solid: Union[Solid, str]) -> None:
         """Takes out a name that was given here, by itself or by its handle. Refused with `InUse` while a formula or a meter reads it."""
-        name = words.name_word(solid if isinstance(solid, str) else solid.given_name)
+        name = words.name_word(solid if isinstance(solid, str) else solid._given_name)
         self.ask(f"drop {name}")
         self._named.pop(name, None)
 

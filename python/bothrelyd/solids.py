@@ -43,7 +43,7 @@ class Solid:
         raise NotImplementedError
 
     @property
-    def given_name(self) -> Optional[str]:
+    def _given_name(self) -> Optional[str]:
         """The name that it was given, if it was given one."""
         raise NotImplementedError
 
