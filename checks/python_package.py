@@ -1,8 +1,8 @@
 #!/usr/bin/env python3
 """The package of python/ against sets of cells: what it sends, and what it makes of the replies, in 2 to 6 dimensions.
 
-Its refusals and faults, its docstrings, docs/PYTHON.md, the gallery's scan drawn by it, and its installation by pip. What needs numpy, scipy, pip
-or commands that the program does not have yet is counted as skipped where they are missing.
+Its refusals and faults, its docstrings, docs/PYTHON.md, the gallery's scan drawn by it, and its installation by pip. What needs numpy, scipy or pip
+is counted as skipped where they are missing.
 
     python3 checks/python_package.py                   the program of this repository, built first where it is not
     EVM=path/to/evm python3 checks/python_package.py   another program of the same language
@@ -235,10 +235,7 @@ def meters():
     with Scene() as scene:
         a = scene.input("a", 2)
         both = a | a.shift((1, 0))
-        try:
-            area = both.watch("content")
-        except bothrelyd.BadSyntax:
-            raise Skipped from None
+        area = both.watch("content")
         with a.watch("vertices") as corners, a.watch("boundary") as edge:
             a.add((0, 0), (3, 2))
             assert (area.first, area.read(), corners.read(), edge.read()) == (0, 8, 4, 10)
@@ -372,8 +369,6 @@ def tour(code: str):
     with tempfile.TemporaryDirectory() as folder:
         shutil.copytree(TOP / "examples", folder, dirs_exist_ok=True)
         got, wanted = python(code, folder=folder), "".join(f"{line}\n" for line in PRINTED.findall(code))
-    if ".watch(" in code and "no syntax" in got:
-        raise Skipped
     assert got == wanted, f"prints\n{got}where the comments say\n{wanted}"
 
 
