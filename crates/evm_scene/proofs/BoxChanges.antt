@@ -6,7 +6,6 @@ use Rattle.evm_cells.specs.Limits.{IsCellSet}
 use Rattle.evm_cells.specs.Booleans.{xor, or_cells, and_cells, sub_cells, xor_cells}
 use Rattle.evm_cells.specs.Boxes.{is_box, box_cells}
 use Rattle.evm_cells.specs.Shapes.{clip}
-use Rattle.evm_cells.specs.Vertices.{cells}
 use Rattle.evm_cells.proofs.Universe.{same_sets}
 use Rattle.evm_cells.proofs.Combine.{cell_set-xor, has-xor_cells}
 use Rattle.evm_cells.proofs.Booleans.{has-combine_of, cell_sets}

@@ -1,18 +1,15 @@
 -- Slots that are handed a name, or given up.
-use Rattle.std.proofs.Common.{◌≡◌, ℕ, zero, suc, Bool, true, false, ◌||◌, List, [], ◌∷◌, map, set, Option, None, Some, Ok, Err, ℤ, pos, refl, sym, ap, subst, ◌∙◌, true≢false, is_some, slice_get}
+use Rattle.std.proofs.Common.{◌≡◌, ℕ, zero, suc, true, false, ◌||◌, List, [], ◌∷◌, set, Option, None, Some, Ok, Err, ℤ, pos, refl, sym, ap, subst, ◌∙◌, true≢false, is_some, slice_get}
 use Rattle.std.specs.Prelude.{option_map, MatchOption}
 use Rattle.std.specs.List.{list_any}
 use Rattle.std.proofs.lemmas.List.{map-set}
 use Rattle.std.proofs.lemmas.Option.{slice_get-map}
 use Rattle.evm_rows.specs.Rows.{Vertices}
-use Rattle.evm_cells.specs.Localities.{Measure}
-use Rattle.evm_meter.specs.Meters.{measured}
 use Rattle.evm_model.specs.Figures.{Figure}
 use Rattle.evm_model.specs.Scene as model
 use Rattle.evm_model.specs.Scene.{Slot, value, handed, slot_is_free, attached, detached}
 use Rattle.evm_model.proofs.Names.{by_or, or_left, or_right, same_name}
 use Rattle.evm_watch.specs.Slots.{Seen, Free, Watches, Gone, seen_watches, seen_reading, seen_is_free, seen_attached}
-use Rattle.evm_scene.specs.declared.node.Node.{Node}
 use Rattle.evm_scene.specs.declared.edit.AttachError.TheVariants as errors
 use Rattle.evm_scene.specs.Tables.{Table, figure_of, node_at, kept, entries_of, scene_of}
 use Rattle.evm_scene.specs.Watched.{slot_of, slots_of, Follows, AllFollow, IsWatched, watched_scene, Attaches}

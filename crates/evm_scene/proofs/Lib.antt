@@ -21,6 +21,7 @@ pub mod Placed
 pub mod Watching
 pub mod Slotted
 pub mod Handed
+pub mod Prepared
 pub mod Corners
 pub mod BoxChanges
 pub mod Causes

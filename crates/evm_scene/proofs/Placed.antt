@@ -1,5 +1,5 @@
 -- An input has another solid, and all changes that follow are in place.
-use Rattle.std.proofs.Common.{◌≡◌, ℕ, true, false, cond, List, [], ◌∷◌, Option, None, Some, sym, ap, subst, ◌∙◌, is_some, bytes_eq}
+use Rattle.std.proofs.Common.{◌≡◌, ℕ, true, false, List, [], ◌∷◌, Some, sym, ap, subst, ◌∙◌, is_some, bytes_eq}
 use Rattle.std.specs.List.{IsDistinct}
 use Rattle.std.specs.Map.{keys_of}
 use Rattle.evm_model.specs.Scene.{with_figure, all_stay}

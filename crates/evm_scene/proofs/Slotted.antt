@@ -1,5 +1,5 @@
 -- Scenes with slots: they are well, edits apply to them, and what their slots read.
-use Rattle.std.proofs.Common.{◌≡◌, ℕ, zero, suc, Bool, true, false, cond, List, [], ◌∷◌, map, Option, None, Some, Result, Ok, Err, ℤ, pos, refl, sym, ap, subst, ◌∙◌, true≢false, slice_get, bytes_eq, int_lt, arith}
+use Rattle.std.proofs.Common.{◌≡◌, ℕ, zero, suc, false, cond, List, [], ◌∷◌, map, Option, None, Some, Result, Ok, Err, ℤ, pos, refl, sym, ap, subst, ◌∙◌, true≢false, slice_get, bytes_eq, int_lt, arith}
 use Rattle.std.specs.List.{list_any, IsDistinct}
 use Rattle.std.specs.Map.{keys_of}
 use Rattle.std.proofs.lemmas.Int.{ints as int_facts}
@@ -9,14 +9,14 @@ use Rattle.evm_model.specs.Figures.{Figure}
 use Rattle.evm_model.specs.Scene as model
 use Rattle.evm_model.specs.Scene.{Scene, Slot, value, IsWell}
 use Rattle.evm_model.specs.Edits.{Edit}
-use Rattle.evm_model.proofs.SlotLaws.{with_slots, some_watches, well_slots, is_drop, refusal_slots, after_slots, changed_slots}
+use Rattle.evm_model.proofs.SlotLaws.{with_slots, well_slots, is_drop, refusal_slots, after_slots, changed_slots}
 use Rattle.evm_watch.specs.Slots.{Seen, Free, Watches, Gone, seen_watches, seen_reading}
 use Rattle.evm_scene.specs.declared.edit.Refusal.{Refusal}
 use Rattle.evm_scene.specs.declared.edit.Refusal.TheVariants.{Name, Taken, Kind, Used, Cycle, Dim, Range, NoMemory}
 use Rattle.evm_scene.specs.declared.edit.Changed.{Changed}
-use Rattle.evm_scene.specs.Tables.{Table, node_at, kept, entries_of, scene_of}
+use Rattle.evm_scene.specs.Tables.{Table, kept, entries_of, scene_of}
 use Rattle.evm_scene.specs.Orders.{IsKept}
-use Rattle.evm_scene.specs.Watched.{slot_of, slots_of, Follows, AllFollow, IsWatched, StaysWatched, watched_scene}
+use Rattle.evm_scene.specs.Watched.{slot_of, slots_of, Follows, AllFollow, IsWatched, watched_scene}
 use Rattle.evm_scene.specs.Applied.{Applies}
 use Rattle.evm_scene.specs.declared.boxes.BoxEdit.{BoxEdit}
 use Rattle.evm_scene.specs.declared.boxes.BoxEdit.TheVariants as boxes

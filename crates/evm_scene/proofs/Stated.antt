@@ -1,11 +1,11 @@
 -- The numbers that formulas state, and the dimensions that they ask for.
-use Rattle.std.proofs.Common.{◌≡◌, ℕ, ◌+◌, ◌≤◌, true, List, Option, None, Some, is_some, true≢false, lit≤, ℤ, pos, neg_ℤ, int_le, int_lt, sym, add-one, arith}
+use Rattle.std.proofs.Common.{◌≡◌, ℕ, ◌+◌, ◌≤◌, true, List, Option, None, Some, is_some, true≢false, lit≤, ℤ, pos, int_le, sym, add-one, arith}
 use Rattle.std.proofs.lemmas.Int.{ints as int_facts}
-use Rattle.evm_cells.specs.Limits.{limit, is_cell_coord, is_point_coord}
+use Rattle.evm_cells.specs.Limits.{is_cell_coord, is_point_coord}
 use Rattle.evm_model.specs.Scene.{is_dim}
 use Rattle.evm_scene.specs.declared.node.Node.{Node}
 use Rattle.evm_scene.specs.Tables.{node_dim, NodeSized}
-use Rattle.evm_cells.proofs.Xor.{and_first, and_second, and_both}
+use Rattle.evm_cells.proofs.Xor.{and_first, and_second}
 use Rattle.evm_cells.proofs.Coords.{le_is, cell_is, cell_coord-falls, point_yes}
 
 -- a coordinate of cells is one of points of the dimension below

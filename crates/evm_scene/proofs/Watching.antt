@@ -1,15 +1,14 @@
 -- What slots keep where the table below them changes.
-use Rattle.std.proofs.Common.{◌≡◌, ℕ, zero, suc, Bool, true, false, cond, ◌||◌, List, [], ◌∷◌, map, set, Option, None, Some, refl, sym, ap, subst, ◌∙◌, true≢false, is_some, slice_get, bytes_eq}
+use Rattle.std.proofs.Common.{◌≡◌, ℕ, zero, suc, Bool, true, false, cond, ◌||◌, List, [], ◌∷◌, map, Option, None, Some, refl, sym, ap, subst, ◌∙◌, true≢false, is_some, slice_get, bytes_eq}
 use Rattle.std.specs.List.{list_any}
-use Rattle.evm_cells.specs.Localities.{Measure}
 use Rattle.evm_model.specs.Figures.{Figure}
 use Rattle.evm_model.specs.Scene.{measure_of, slot_watches}
-use Rattle.evm_model.proofs.Names.{by_or, or_left, or_right, same_name, name_itself}
+use Rattle.evm_model.proofs.Names.{or_left, or_right, same_name, name_itself}
 use Rattle.evm_model.proofs.SlotLaws.{some_watches}
 use Rattle.evm_watch.specs.Slots.{Seen, Free, Watches, Gone, seen_watches, or_pending, seen_committed}
 use Rattle.evm_scene.specs.declared.node.Node.{Node}
 use Rattle.evm_scene.specs.declared.node.Change.{Change}
-use Rattle.evm_scene.specs.Tables.{Table, figure_of, node_at, node_figure, kept}
+use Rattle.evm_scene.specs.Tables.{Table, node_at, node_figure, kept}
 use Rattle.evm_scene.specs.Changes.{Pending, change_at, after_of, moved}
 use Rattle.evm_scene.specs.Watched.{slot_of, slots_of, Follows, AllFollow, IsWatched, StaysWatched, or_after, prepared_by}
 

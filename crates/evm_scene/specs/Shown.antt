@@ -4,8 +4,6 @@ use Rattle.evm_script.specs.declared.formula.Formula.{Formula}
 use Rattle.evm_model.specs.Scene.{Scene, Entry, What, Given, Made, entry_of}
 use Rattle.evm_scene.specs.declared.edit.Refusal.{Refusal}
 use Rattle.evm_scene.specs.declared.edit.Refusal.TheVariants.{Name, Taken, Kind, Used, Cycle, Dim, Range, NoMemory}
-use Rattle.evm_scene.specs.Tables.{scene_of}
-use Rattle.evm_scene.specs.Orders.{IsKept}
 
 abbrev pub name_of_entry : Entry → List ℕ
 name_of_entry e = e.name

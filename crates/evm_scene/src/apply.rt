@@ -18,10 +18,10 @@ use std::alloc::Global;
 impl<M: Meter> Scene<M> {
     /// Makes an edit, and answers how many names stood before and after and changed their cells.
     ///
-    /// A refused edit leaves the scene and all readings as they are; the refusal is the first cause that holds, in the order of `Refusal`, or
-    /// `NoMemory`, which may come at any edit. Takes memory for the change of each name that changes, and for what of its tree the
-    /// change meets, and of each watched name that changes for what is near its change. Another solid of an input or formula, and a new formula, take the rows of the solid before, of the operands and
-    /// of the solid after as well.
+    /// A refused edit leaves the scene and all readings as they are; the refusal is the first cause that holds, in the order of
+    /// `Refusal`, or `NoMemory`, which may come at any edit. Takes memory for the change of each name that changes, and for what of
+    /// its tree the change meets, and of each watched name that changes for what is near its change. Another solid of an input or
+    /// formula, and a new formula, take the rows of the solid before, of the operands and of the solid after as well.
     pub fn apply(&mut self, alloc: Global, edit: Edit) -> Result<Changed, Refusal>
         ensures { Applies result self.old self.new (edit_view edit) }
     {

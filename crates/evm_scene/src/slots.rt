@@ -6,6 +6,7 @@ ghost use Rattle.evm_scene.specs.Watched.{Attaches};
 
 use super::edit::AttachError;
 use super::scene::Scene;
+use super::watched::attach;
 use evm_meter::Meter;
 use evm_script::Name;
 use std::alloc::Global;
@@ -26,10 +27,7 @@ impl<M: Meter> Scene<M> {
     pub fn attach(&mut self, alloc: Global, slot: usize, name: &Name) -> Result<i128, AttachError>
         ensures { Attaches result self.old self.new slot name.now }
     {
-        let _ = alloc;
-        let _ = slot;
-        let _ = name;
-        Err(AttachError::NoMemory)
+        attach(alloc, &self.table, &mut self.slots, slot, name)
     }
 
     /// The reading of a slot: the measure of the value that the name which it watches has now. None exactly where it watches no name.

@@ -1,4 +1,4 @@
-use Rattle.std.proofs.Common.{◌≡◌, ℕ, ℤ, pos, neg_ℤ, ◌-ℤ◌, List, true, false, take, drop, to_z, of_z, w32, rules, sym, ap, ◌∙◌}
+use Rattle.std.proofs.Common.{◌≡◌, ℕ, pos, neg_ℤ, ◌-ℤ◌, false, take, drop, to_z, of_z, w32, rules, sym, ap, ◌∙◌}
 use Rattle.std.proofs.lemmas.Bool.{false≢true}
 use Rattle.evm_cells.specs.Limits.{limit}
 use Rattle.evm_model.specs.Figures.{box_fits}
