@@ -1,6 +1,7 @@
 //! A scene through each of its calls, with values worked out by hand. Whole scripts are run by the program's tests.
 
 use super::*;
+use evm_meter::StockMeter;
 use evm_rows::Solid;
 use evm_script::{Formula, Name, Num, Nums};
 use std::test::*;
@@ -22,7 +23,8 @@ fn number(value: i64) -> Result<Num, Fail> {
 
 #[test]
 fn formulas_follow_inputs(rt: HostRuntime) -> Result<(), Fail> {
-    let mut scene = Scene::new(rt.alloc()).map_err(|_| "memory")?;
+    let meters: Vec<StockMeter> = Vec::new(rt.alloc());
+    let mut scene = Scene::new(rt.alloc(), meters).map_err(|_| "memory")?;
     let name_a = name(b"a")?;
     let name_m = name(b"m")?;
     let input = Edit::Input {
