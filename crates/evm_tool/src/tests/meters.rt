@@ -58,8 +58,7 @@ impl Meter for RowCounter {
     }
 
     fn commit(&mut self) {
-        self.reading = self.pending;
-        self.pending = None;
+        self.reading = self.pending.take();
     }
 
     fn abandon(&mut self) {
@@ -67,10 +66,10 @@ impl Meter for RowCounter {
     }
 
     fn read(&self) -> i128 {
-        match self.reading {
-            Some(reading) => reading as i128,
-            None => unreachable!(),
-        }
+        let Some(reading) = self.reading else {
+            unreachable!();
+        };
+        reading as i128
     }
 }
 
