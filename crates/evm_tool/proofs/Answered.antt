@@ -1,7 +1,8 @@
 -- A script that was answered, from a new session on, is a run.
 use Rattle.std.proofs.Common.{◌≡◌, ℕ, ◌+◌, Bool, true, false, List, [], ◌∷◌, ◌++◌, length, take, sym, ◌∙◌, ap, subst, arith, append_assoc, Option, Some, None, IfSome}
 use Rattle.std.proofs.lemmas.List.{take_at, length-append}
-use Rattle.evm_model.specs.Scene.{start}
+use Rattle.evm_cells.specs.Localities.{Measure}
+use Rattle.evm_model.specs.Scene.{start_with}
 use Rattle.evm_model.specs.Runs.{run, texts}
 use Rattle.evm_session.specs.Answers.{ShelfView}
 use Rattle.evm_text.specs.Lines.{lines}
@@ -16,16 +17,16 @@ use Rattle.evm_tool.specs.declared.top.Status.{Status}
 use Rattle.evm_tool.specs.declared.top.Status.TheVariants.{Done, Refused, Words, ReadFault, WriteFault, NoMemory, TooLong}
 use Rattle.evm_tool.proofs.Served.{progress_start, served_progress, answers_of, CutsAt, progress_cut}
 
-all_served : (ls : List (List ℕ)) (some : Bool) (s t : State) → s.scene ≡ start → Served ls some s t → Progress ls [] t.scene s.written t.written some s.shelf t.shelf
-all_served ls some s t e v = served_progress [] ls false some s t s.written s.shelf (progress_start [] s.scene s.written s.shelf e) v
+all_served : (kinds : List Measure) (ls : List (List ℕ)) (some : Bool) (s t : State) → s.scene ≡ start_with kinds → Served ls some s t → Progress kinds ls [] t.scene s.written t.written some s.shelf t.shelf
+all_served kinds ls some s t e v = served_progress kinds [] ls false some s t s.written s.shelf (progress_start kinds [] s.scene s.written s.shelf e) v
 
 front_of : (ls later : List (List ℕ)) (line : List ℕ) (count : ℕ) → count ≡ length ls → ls ++ line ∷ [] ≡ take (count + 1) (ls ++ line ∷ later)
 front_of ls later line count e =
     sym (ap (take (count + 1)) (sym (append_assoc ls (line ∷ []) later)) ∙ take_at (ls ++ line ∷ []) later (count + 1) (omega (arith, length-append ls (line ∷ []), e)))
 
-stops_at : (left_now : Option (List ℕ)) (taken : List ℕ) (s t : State) (w : StopsIn left_now taken s t)
-    → (cut : CutsAt (lines taken) (length w.ls) s.written t.written s.shelf t.shelf) → StopsAt left_now taken cut.gained s.shelf t.shelf
-stops_at left_now taken s t w cut = record {
+stops_at : (kinds : List Measure) (left_now : Option (List ℕ)) (taken : List ℕ) (s t : State) (w : StopsIn left_now taken s t)
+    → (cut : CutsAt kinds (lines taken) (length w.ls) s.written t.written s.shelf t.shelf) → StopsAt kinds left_now taken cut.gained s.shelf t.shelf
+stops_at kinds left_now taken s t w cut = record {
   begins = cut.begins;
   upto = w.upto;
   after = w.after;
@@ -35,54 +36,54 @@ stops_at left_now taken s t w cut = record {
   near = w.near;
 }
 
-pub runs_of : (status : Status) (left left_now : Option (List ℕ)) (s t : State) → s.scene ≡ start → Answered status left left_now s t → Runs status left left_now s.written t.written s.shelf t.shelf
-runs_of Done left left_now s t e v =
-    let p = all_served (lines v.0) false s t e v.2 in
+pub runs_of : (kinds : List Measure) (status : Status) (left left_now : Option (List ℕ)) (s t : State) → s.scene ≡ start_with kinds → Answered status left left_now s t → Runs kinds status left left_now s.written t.written s.shelf t.shelf
+runs_of kinds Done left left_now s t e v =
+    let p = all_served kinds (lines v.0) false s t e v.2 in
     record {
       taken = v.0;
       takes = v.1;
-      gained = texts (run (first_world s.shelf) (lines v.0) p.marks);
+      gained = texts (run (first_world kinds s.shelf) (lines v.0) p.marks);
       appended = p.text;
-      writes = answers_of (lines v.0) t.scene s.written t.written false s.shelf t.shelf p;
+      writes = answers_of kinds (lines v.0) t.scene s.written t.written false s.shelf t.shelf p;
     }
-runs_of Refused left left_now s t e v =
-    let p = all_served (lines v.0) true s t e v.2 in
+runs_of kinds Refused left left_now s t e v =
+    let p = all_served kinds (lines v.0) true s t e v.2 in
     record {
       taken = v.0;
       takes = v.1;
-      gained = texts (run (first_world s.shelf) (lines v.0) p.marks);
+      gained = texts (run (first_world kinds s.shelf) (lines v.0) p.marks);
       appended = p.text;
-      writes = answers_of (lines v.0) t.scene s.written t.written true s.shelf t.shelf p;
+      writes = answers_of kinds (lines v.0) t.scene s.written t.written true s.shelf t.shelf p;
     }
-runs_of Words left left_now s t e v = absurd v
-runs_of ReadFault left left_now s t e v =
+runs_of kinds Words left left_now s t e v = absurd v
+runs_of kinds ReadFault left left_now s t e v =
     let ls = ended_lines v.0 in
     let some = v.3.0 in
-    let p = all_served ls some s t e v.3.1 in
+    let p = all_served kinds ls some s t e v.3.1 in
     record {
       taken = v.0;
       takes = (v.1, v.2);
-      gained = texts (run (first_world s.shelf) ls p.marks);
+      gained = texts (run (first_world kinds s.shelf) ls p.marks);
       appended = p.text;
-      writes = (some, answers_of ls t.scene s.written t.written some s.shelf t.shelf p);
+      writes = (some, answers_of kinds ls t.scene s.written t.written some s.shelf t.shelf p);
     }
-runs_of WriteFault left left_now s t e v =
+runs_of kinds WriteFault left left_now s t e v =
     let w = v.3 in
-    let p = all_served w.ls w.some s w.between e w.served in
-    let cut = subst (λ (all : List (List ℕ)). CutsAt all (length w.ls) s.written t.written s.shelf t.shelf) (sym w.here)
-    (progress_cut w.ls w.line w.later w.between.scene t.scene s.written w.between.written t.written w.some w.failed s.shelf w.between.shelf t.shelf p w.last) in
-    record { taken = v.0; takes = (v.1, v.2); gained = cut.gained; appended = cut.appended; writes = stops_at left_now v.0 s t w cut }
-runs_of NoMemory left left_now s t e v = absurd v
-runs_of TooLong left left_now s t e v =
+    let p = all_served kinds w.ls w.some s w.between e w.served in
+    let cut = subst (λ (all : List (List ℕ)). CutsAt kinds all (length w.ls) s.written t.written s.shelf t.shelf) (sym w.here)
+    (progress_cut kinds w.ls w.line w.later w.between.scene t.scene s.written w.between.written t.written w.some w.failed s.shelf w.between.shelf t.shelf p w.last) in
+    record { taken = v.0; takes = (v.1, v.2); gained = cut.gained; appended = cut.appended; writes = stops_at kinds left_now v.0 s t w cut }
+runs_of kinds NoMemory left left_now s t e v = absurd v
+runs_of kinds TooLong left left_now s t e v =
     let ls = ended_lines (take script_limit v.0) in
     let some = v.3.0 in
-    let p = all_served ls some s t e v.3.1 in
+    let p = all_served kinds ls some s t e v.3.1 in
     record {
       taken = v.0;
       takes = (v.1, v.2);
-      gained = texts (run (first_world s.shelf) ls p.marks);
+      gained = texts (run (first_world kinds s.shelf) ls p.marks);
       appended = p.text;
-      writes = (some, answers_of ls t.scene s.written t.written some s.shelf t.shelf p);
+      writes = (some, answers_of kinds ls t.scene s.written t.written some s.shelf t.shelf p);
     }
 
 -- a script that is not too long was answered where no device failed
@@ -115,10 +116,10 @@ completes_not status asked None left_now written written_now r q w v h = tt
 completes_not status asked (Some script) left_now written written_now r q w v h = λ run. absurd (h run)
 
 -- what words ask for
-pub does_run : (asked : Option Form) (status : Status) (left left_now written written_now : Option (List ℕ)) (shelf shelf_now : ShelfView) → asked ≡ Some Run → Runs status left left_now written written_now shelf shelf_now
-    → Does asked status left left_now written written_now shelf shelf_now
-does_run asked status left left_now written written_now shelf shelf_now e h = subst (λ (o : Option Form). Does o status left left_now written written_now shelf shelf_now) (sym e) h
+pub does_run : (kinds : List Measure) (asked : Option Form) (status : Status) (left left_now written written_now : Option (List ℕ)) (shelf shelf_now : ShelfView) → asked ≡ Some Run → Runs kinds status left left_now written written_now shelf shelf_now
+    → Does asked kinds status left left_now written written_now shelf shelf_now
+does_run kinds asked status left left_now written written_now shelf shelf_now e h = subst (λ (o : Option Form). Does o kinds status left left_now written written_now shelf shelf_now) (sym e) h
 
-pub does_gen : (asked : Option Form) (seed edits : ℕ) (status : Status) (left left_now written written_now : Option (List ℕ)) (shelf shelf_now : ShelfView) → asked ≡ Some (Gen seed edits) → Makes status seed edits left left_now written written_now shelf shelf_now
-    → Does asked status left left_now written written_now shelf shelf_now
-does_gen asked seed edits status left left_now written written_now shelf shelf_now e h = subst (λ (o : Option Form). Does o status left left_now written written_now shelf shelf_now) (sym e) h
+pub does_gen : (kinds : List Measure) (asked : Option Form) (seed edits : ℕ) (status : Status) (left left_now written written_now : Option (List ℕ)) (shelf shelf_now : ShelfView) → asked ≡ Some (Gen seed edits) → Makes status seed edits left left_now written written_now shelf shelf_now
+    → Does asked kinds status left left_now written written_now shelf shelf_now
+does_gen kinds asked seed edits status left left_now written written_now shelf shelf_now e h = subst (λ (o : Option Form). Does o kinds status left left_now written written_now shelf shelf_now) (sym e) h

@@ -5,8 +5,9 @@ use Rattle.std.proofs.Math.Seq.{drop-append_seam}
 use Rattle.std.proofs.lemmas.List.{take-append-drop, length-append, length-drop, append-nil}
 use Rattle.std.specs.Io.KnownBytes.{Appends}
 use Rattle.evm_cells.proofs.Xor.{and_both}
+use Rattle.evm_cells.specs.Localities.{Measure}
 use Rattle.evm_outside.specs.declared.Failed.{Failed}
-use Rattle.evm_model.specs.Scene.{Scene, start}
+use Rattle.evm_model.specs.Scene.{Scene, start_with}
 use Rattle.evm_model.specs.Replies.{Reply, reply_text, is_no}
 use Rattle.evm_model.specs.Runs.{World, Mark, NoMemory, answer, may_have, may_all_have, run, texts, some_no, world_after}
 use Rattle.evm_model.proofs.RunLaws.{run_more, run_later, world_more, texts_more, some_no_more, drop_more, run_no_marks, after_no_marks, may_no_marks, may_more}
@@ -81,37 +82,37 @@ serves_lack_cut line old new text gone f before now s t a sent = record {
   misses = a.misses;
 }
 
-leaves_none : (ls : List (List ℕ)) (s : ShelfView) → LeavesShelf ls [] s s
-leaves_none ls s = record {
-  allowed = may_no_marks (is_some s.files) (first_world s) ls;
+leaves_none : (kinds : List Measure) (ls : List (List ℕ)) (s : ShelfView) → LeavesShelf kinds ls [] s s
+leaves_none kinds ls s = record {
+  allowed = may_no_marks (is_some s.files) (first_world kinds s) ls;
   told = refl;
-  files = subst (λ (w : World). AreFiles s.files w.files) (sym (after_no_marks (first_world s) ls)) (files_told s.files);
-  faults = subst (λ (rs : List Reply). Counts is_no_shelf rs s.faults s.faults) (sym (run_no_marks (first_world s) ls)) (counts_none is_no_shelf s.faults);
-  misses = subst (λ (rs : List Reply). Counts is_no_missing rs s.misses s.misses) (sym (run_no_marks (first_world s) ls)) (counts_none is_no_missing s.misses);
+  files = subst (λ (w : World). AreFiles s.files w.files) (sym (after_no_marks (first_world kinds s) ls)) (files_told s.files);
+  faults = subst (λ (rs : List Reply). Counts is_no_shelf rs s.faults s.faults) (sym (run_no_marks (first_world kinds s) ls)) (counts_none is_no_shelf s.faults);
+  misses = subst (λ (rs : List Reply). Counts is_no_missing rs s.misses s.misses) (sym (run_no_marks (first_world kinds s) ls)) (counts_none is_no_missing s.misses);
 }
 
 -- before the first line
-pub progress_start : (ls : List (List ℕ)) (scene : Scene) (o : Option (List ℕ)) (s : ShelfView) → scene ≡ start → Progress ls ls scene o o false s s
-progress_start ls scene o s e = record {
+pub progress_start : (kinds : List Measure) (ls : List (List ℕ)) (scene : Scene) (o : Option (List ℕ)) (s : ShelfView) → scene ≡ start_with kinds → Progress kinds ls ls scene o o false s s
+progress_start kinds ls scene o s e = record {
   marks = [];
   most = omega arith;
   left = refl;
-  reached = e ∙ ap (λ (w : World). w.scene) (sym (after_no_marks (first_world s) ls));
-  shelf = leaves_none ls s;
-  text = subst (λ (rs : List Reply). Appends o o (texts rs)) (sym (run_no_marks (first_world s) ls)) (appends_nothing o);
-  refused = ap some_no (run_no_marks (first_world s) ls);
+  reached = e ∙ ap (λ (w : World). w.scene) (sym (after_no_marks (first_world kinds s) ls));
+  shelf = leaves_none kinds ls s;
+  text = subst (λ (rs : List Reply). Appends o o (texts rs)) (sym (run_no_marks (first_world kinds s) ls)) (appends_nothing o);
+  refused = ap some_no (run_no_marks (first_world kinds s) ls);
 }
 
 -- the reply that a mark gives in the world that the run has come to
-module _ (ls rest : List (List ℕ)) (line : List ℕ) (after : List (List ℕ)) (old : Scene) (a b : Option (List ℕ)) (some : Bool) (first s : ShelfView) (p : Progress ls rest old a b some first s) (e : rest ≡ line ∷ after) (m : Mark) where
+module _ (kinds : List Measure) (ls rest : List (List ℕ)) (line : List ℕ) (after : List (List ℕ)) (old : Scene) (a b : Option (List ℕ)) (some : Bool) (first s : ShelfView) (p : Progress kinds ls rest old a b some first s) (e : rest ≡ line ∷ after) (m : Mark) where
   here : drop (length p.marks) ls ≡ line ∷ after
   here = p.left ∙ e
 
-  is_here : IsOf s.files old (world_after (first_world first) ls p.marks)
+  is_here : IsOf s.files old (world_after (first_world kinds first) ls p.marks)
   is_here = record { scene = p.reached; files = p.shelf.files }
 
-  run_here : run (first_world first) ls (p.marks ++ m ∷ []) ≡ run (first_world first) ls p.marks ++ (answer (world_after (first_world first) ls p.marks) line m).reply ∷ []
-  run_here = run_more (first_world first) ls p.marks line after m here
+  run_here : run (first_world kinds first) ls (p.marks ++ m ∷ []) ≡ run (first_world kinds first) ls p.marks ++ (answer (world_after (first_world kinds first) ls p.marks) line m).reply ∷ []
+  run_here = run_more (first_world kinds first) ls p.marks line after m here
 
   count_here : length (p.marks ++ m ∷ []) ≡ length p.marks + 1
   count_here = length-append p.marks (m ∷ [])
@@ -119,36 +120,36 @@ module _ (ls rest : List (List ℕ)) (line : List ℕ) (after : List (List ℕ))
   room_here : length p.marks + 1 ≤ length ls
   room_here = omega (arith, ap length here, length-drop (length p.marks) ls)
 
-  allowed_here : may_have (is_some s.files) (world_of old s.files) line m ≡ true → may_have (is_some first.files) (world_after (first_world first) ls p.marks) line m ≡ true
+  allowed_here : may_have (is_some s.files) (world_of old s.files) line m ≡ true → may_have (is_some first.files) (world_after (first_world kinds first) ls p.marks) line m ≡ true
   allowed_here h =
-      ap (λ (told : Bool). may_have told (world_after (first_world first) ls p.marks) line m) (sym p.shelf.told)
-      ∙ sym (may_alike (is_some s.files) (world_of old s.files) (world_after (first_world first) ls p.marks) line m p.reached) ∙ h
+      ap (λ (told : Bool). may_have told (world_after (first_world kinds first) ls p.marks) line m) (sym p.shelf.told)
+      ∙ sym (may_alike (is_some s.files) (world_of old s.files) (world_after (first_world kinds first) ls p.marks) line m p.reached) ∙ h
 
 not_not : (b f : Bool) → f ≡ not b → not f ≡ b
 not_not true f e = ap not e
 not_not false f e = ap not e
 
 -- what one line more leaves of the shelf, and the scene after it
-module _ (ls rest : List (List ℕ)) (line : List ℕ) (after : List (List ℕ)) (old new : Scene) (a b c : Option (List ℕ)) (some : Bool) (first s t : ShelfView) (r : Result Bool Failed) (p : Progress ls rest old a b some first s) (e : rest ≡ line ∷ after) (v : Serves r old new b c line s t) where
-  alike_here : IsSameButFiles (answer (world_of old s.files) line v.mark) (answer (world_after (first_world first) ls p.marks) line v.mark)
-  alike_here = alike s.files old (world_after (first_world first) ls p.marks) line v.mark (is_here ls rest line after old a b some first s p e v.mark) v.allowed
+module _ (kinds : List Measure) (ls rest : List (List ℕ)) (line : List ℕ) (after : List (List ℕ)) (old new : Scene) (a b c : Option (List ℕ)) (some : Bool) (first s t : ShelfView) (r : Result Bool Failed) (p : Progress kinds ls rest old a b some first s) (e : rest ≡ line ∷ after) (v : Serves r old new b c line s t) where
+  alike_here : IsSameButFiles (answer (world_of old s.files) line v.mark) (answer (world_after (first_world kinds first) ls p.marks) line v.mark)
+  alike_here = alike s.files old (world_after (first_world kinds first) ls p.marks) line v.mark (is_here kinds ls rest line after old a b some first s p e v.mark) v.allowed
 
-  world_there : world_after (first_world first) ls (p.marks ++ v.mark ∷ []) ≡ (answer (world_after (first_world first) ls p.marks) line v.mark).world
-  world_there = world_more (first_world first) ls p.marks line after v.mark (here ls rest line after old a b some first s p e v.mark)
+  world_there : world_after (first_world kinds first) ls (p.marks ++ v.mark ∷ []) ≡ (answer (world_after (first_world kinds first) ls p.marks) line v.mark).world
+  world_there = world_more (first_world kinds first) ls p.marks line after v.mark (here kinds ls rest line after old a b some first s p e v.mark)
 
-  run_there : run (first_world first) ls (p.marks ++ v.mark ∷ []) ≡ run (first_world first) ls p.marks ++ (answer (world_of old s.files) line v.mark).reply ∷ []
-  run_there = run_here ls rest line after old a b some first s p e v.mark ∙ ap (λ (reply : Reply). run (first_world first) ls p.marks ++ reply ∷ []) (sym alike_here.reply)
+  run_there : run (first_world kinds first) ls (p.marks ++ v.mark ∷ []) ≡ run (first_world kinds first) ls p.marks ++ (answer (world_of old s.files) line v.mark).reply ∷ []
+  run_there = run_here kinds ls rest line after old a b some first s p e v.mark ∙ ap (λ (reply : Reply). run (first_world kinds first) ls p.marks ++ reply ∷ []) (sym alike_here.reply)
 
-  reached_there : new ≡ (world_after (first_world first) ls (p.marks ++ v.mark ∷ [])).scene
+  reached_there : new ≡ (world_after (first_world kinds first) ls (p.marks ++ v.mark ∷ [])).scene
   reached_there = v.scene ∙ alike_here.scene ∙ ap (λ (w : World). w.scene) (sym world_there)
 
-  leaves_there : LeavesShelf ls (p.marks ++ v.mark ∷ []) first t
+  leaves_there : LeavesShelf kinds ls (p.marks ++ v.mark ∷ []) first t
   leaves_there = record {
-    allowed = may_more (is_some first.files) (first_world first) ls p.marks line after v.mark (here ls rest line after old a b some first s p e v.mark)
-        ∙ and_both _ _ p.shelf.allowed (allowed_here ls rest line after old a b some first s p e v.mark v.allowed);
+    allowed = may_more (is_some first.files) (first_world kinds first) ls p.marks line after v.mark (here kinds ls rest line after old a b some first s p e v.mark)
+        ∙ and_both _ _ p.shelf.allowed (allowed_here kinds ls rest line after old a b some first s p e v.mark v.allowed);
     told = v.told ∙ p.shelf.told;
     files = subst (λ (w : World). AreFiles t.files w.files) (sym world_there)
-        (files_alike s.files t.files old (world_after (first_world first) ls p.marks) line v.mark (is_here ls rest line after old a b some first s p e v.mark) v.told v.files);
+        (files_alike s.files t.files old (world_after (first_world kinds first) ls p.marks) line v.mark (is_here kinds ls rest line after old a b some first s p e v.mark) v.told v.files);
     faults = subst (λ (rs : List Reply). Counts is_no_shelf rs first.faults t.faults) (sym run_there)
         (counts_more is_no_shelf _ _ first.faults s.faults t.faults p.shelf.faults (tells_faults _ s.faults t.faults v.faults));
     misses = subst (λ (rs : List Reply). Counts is_no_missing rs first.misses t.misses) (sym run_there)
@@ -156,19 +157,19 @@ module _ (ls rest : List (List ℕ)) (line : List ℕ) (after : List (List ℕ))
   }
 
 -- one line more was answered
-pub progress_more : (ls rest : List (List ℕ)) (line : List ℕ) (after : List (List ℕ)) (old new : Scene) (a b c : Option (List ℕ)) (some fine next : Bool) (first s t : ShelfView)
-    → Progress ls rest old a b some first s → rest ≡ line ∷ after → Serves (Ok fine) old new b c line s t → next ≡ some || not fine → Progress ls after new a c next first t
-progress_more ls rest line after old new a b c some fine next first s t p e v n =
-    let so_far = run (first_world first) ls p.marks in
+pub progress_more : (kinds : List Measure) (ls rest : List (List ℕ)) (line : List ℕ) (after : List (List ℕ)) (old new : Scene) (a b c : Option (List ℕ)) (some fine next : Bool) (first s t : ShelfView)
+    → Progress kinds ls rest old a b some first s → rest ≡ line ∷ after → Serves (Ok fine) old new b c line s t → next ≡ some || not fine → Progress kinds ls after new a c next first t
+progress_more kinds ls rest line after old new a b c some fine next first s t p e v n =
+    let so_far = run (first_world kinds first) ls p.marks in
     let reply = (answer (world_of old s.files) line v.mark).reply in
-    let one_more = run_there ls rest line after old new a b c some first s t (Ok fine) p e v in
+    let one_more = run_there kinds ls rest line after old new a b c some first s t (Ok fine) p e v in
     record {
       marks = p.marks ++ v.mark ∷ [];
-      most = omega (arith, room_here ls rest line after old a b some first s p e v.mark, count_here ls rest line after old a b some first s p e v.mark);
-      left = ap (λ (k : ℕ). drop k ls) (count_here ls rest line after old a b some first s p e v.mark)
-          ∙ drop_more ls (length p.marks) line after (here ls rest line after old a b some first s p e v.mark);
-      reached = reached_there ls rest line after old new a b c some first s t (Ok fine) p e v;
-      shelf = leaves_there ls rest line after old new a b c some first s t (Ok fine) p e v;
+      most = omega (arith, room_here kinds ls rest line after old a b some first s p e v.mark, count_here kinds ls rest line after old a b some first s p e v.mark);
+      left = ap (λ (k : ℕ). drop k ls) (count_here kinds ls rest line after old a b some first s p e v.mark)
+          ∙ drop_more ls (length p.marks) line after (here kinds ls rest line after old a b some first s p e v.mark);
+      reached = reached_there kinds ls rest line after old new a b c some first s t (Ok fine) p e v;
+      shelf = leaves_there kinds ls rest line after old new a b c some first s t (Ok fine) p e v;
       text = subst (λ (bytes : List ℕ). Appends a c bytes) (sym (ap texts one_more ∙ texts_more so_far reply))
           (appends_more a b c (texts so_far) (reply_text reply) p.text v.sent.0);
       refused = ap some_no one_more ∙ some_no_more so_far reply
@@ -185,11 +186,11 @@ may_later told world [] more (m ∷ ms) h = absurd (omega arith)
 may_later told world (l ∷ ls) more [] h = refl
 may_later told world (l ∷ ls) more (m ∷ ms) h = ap (λ (b : Bool). may_have told world l m && b) (may_later told (answer world l m).world ls more ms (omega arith))
 
-leaves_later : (ls more : List (List ℕ)) (ms : List Mark) (s t : ShelfView) → length ms ≤ length ls → LeavesShelf ls ms s t → LeavesShelf (ls ++ more) ms s t
-leaves_later ls more ms s t h v =
-    let same = run_later (first_world s) ls more ms h in
+leaves_later : (kinds : List Measure) (ls more : List (List ℕ)) (ms : List Mark) (s t : ShelfView) → length ms ≤ length ls → LeavesShelf kinds ls ms s t → LeavesShelf kinds (ls ++ more) ms s t
+leaves_later kinds ls more ms s t h v =
+    let same = run_later (first_world kinds s) ls more ms h in
     record {
-      allowed = may_later (is_some s.files) (first_world s) ls more ms h ∙ v.allowed;
+      allowed = may_later (is_some s.files) (first_world kinds s) ls more ms h ∙ v.allowed;
       told = v.told;
       files = subst (λ (w : World). AreFiles t.files w.files) (sym same.1) v.files;
       faults = subst (λ (rs : List Reply). Counts is_no_shelf rs s.faults t.faults) (sym same.0) v.faults;
@@ -197,20 +198,20 @@ leaves_later ls more ms s t h v =
     }
 
 -- as many marks as lines, where all of them were answered
-pub each_marked : (ls : List (List ℕ)) (scene : Scene) (a b : Option (List ℕ)) (some : Bool) (first s : ShelfView) (p : Progress ls [] scene a b some first s) → length p.marks ≡ length ls
-each_marked ls scene a b some first s p = omega (arith, p.most, ap length p.left, length-drop (length p.marks) ls)
+pub each_marked : (kinds : List Measure) (ls : List (List ℕ)) (scene : Scene) (a b : Option (List ℕ)) (some : Bool) (first s : ShelfView) (p : Progress kinds ls [] scene a b some first s) → length p.marks ≡ length ls
+each_marked kinds ls scene a b some first s p = omega (arith, p.most, ap length p.left, length-drop (length p.marks) ls)
 
 -- where all of them were answered, they are the front of a longer run
-progress_open : (ls more : List (List ℕ)) (scene : Scene) (a b : Option (List ℕ)) (some : Bool) (first s : ShelfView) → Progress ls [] scene a b some first s → Progress (ls ++ more) more scene a b some first s
-progress_open ls more scene a b some first s p =
-    let same = run_later (first_world first) ls more p.marks p.most in
-    let all = each_marked ls scene a b some first s p in
+progress_open : (kinds : List Measure) (ls more : List (List ℕ)) (scene : Scene) (a b : Option (List ℕ)) (some : Bool) (first s : ShelfView) → Progress kinds ls [] scene a b some first s → Progress kinds (ls ++ more) more scene a b some first s
+progress_open kinds ls more scene a b some first s p =
+    let same = run_later (first_world kinds first) ls more p.marks p.most in
+    let all = each_marked kinds ls scene a b some first s p in
     record {
       marks = p.marks;
       most = omega (arith, p.most, length-append ls more);
       left = ap (λ (k : ℕ). drop k (ls ++ more)) all ∙ drop-append_seam ls more;
       reached = p.reached ∙ ap (λ (w : World). w.scene) (sym same.1);
-      shelf = leaves_later ls more p.marks first s p.most p.shelf;
+      shelf = leaves_later kinds ls more p.marks first s p.most p.shelf;
       text = subst (λ (rs : List Reply). Appends a b (texts rs)) (sym same.0) p.text;
       refused = ap some_no same.0 ∙ p.refused;
     }
@@ -220,51 +221,51 @@ or_false true c e = refl
 or_false false c e = e
 
 -- and those that were served after them are answered too
-pub served_progress : (done ls : List (List ℕ)) (before some : Bool) (s t : State) (a : Option (List ℕ)) (first : ShelfView) → Progress done [] s.scene a s.written before first s.shelf
-    → Served ls some s t → Progress (done ++ ls) [] t.scene a t.written (before || some) first t.shelf
-served_progress done [] before some s t a first p v =
-    subst (λ (x : State). Progress (done ++ []) [] x.scene a x.written (before || some) first x.shelf) (sym v.0)
-    (subst (λ (b : Bool). Progress (done ++ []) [] s.scene a s.written b first s.shelf) (sym (or_false before some v.1))
-    (subst (λ (ls : List (List ℕ)). Progress ls [] s.scene a s.written before first s.shelf) (sym (append-nil done)) p))
-served_progress done (line ∷ more) before some s t a first p v =
+pub served_progress : (kinds : List Measure) (done ls : List (List ℕ)) (before some : Bool) (s t : State) (a : Option (List ℕ)) (first : ShelfView) → Progress kinds done [] s.scene a s.written before first s.shelf
+    → Served ls some s t → Progress kinds (done ++ ls) [] t.scene a t.written (before || some) first t.shelf
+served_progress kinds done [] before some s t a first p v =
+    subst (λ (x : State). Progress kinds (done ++ []) [] x.scene a x.written (before || some) first x.shelf) (sym v.0)
+    (subst (λ (b : Bool). Progress kinds (done ++ []) [] s.scene a s.written b first s.shelf) (sym (or_false before some v.1))
+    (subst (λ (ls : List (List ℕ)). Progress kinds ls [] s.scene a s.written before first s.shelf) (sym (append-nil done)) p))
+served_progress kinds done (line ∷ more) before some s t a first p v =
     let between = v.0 in
     let fine = v.1 in
     let later = v.2 in
-    let step : Progress (done ++ line ∷ []) [] between.scene a between.written (before || not fine) first between.shelf =
-    progress_more (done ++ line ∷ []) (line ∷ []) line [] s.scene between.scene a s.written between.written before fine (before || not fine) first s.shelf between.shelf
-    (progress_open done (line ∷ []) s.scene a s.written before first s.shelf p) refl v.3 refl in
-    subst (λ (ls : List (List ℕ)). Progress ls [] t.scene a t.written (before || some) first t.shelf) (append_assoc done (line ∷ []) more)
-    (subst (λ (b : Bool). Progress ((done ++ line ∷ []) ++ more) [] t.scene a t.written b first t.shelf)
+    let step : Progress kinds (done ++ line ∷ []) [] between.scene a between.written (before || not fine) first between.shelf =
+    progress_more kinds (done ++ line ∷ []) (line ∷ []) line [] s.scene between.scene a s.written between.written before fine (before || not fine) first s.shelf between.shelf
+    (progress_open kinds done (line ∷ []) s.scene a s.written before first s.shelf p) refl v.3 refl in
+    subst (λ (ls : List (List ℕ)). Progress kinds ls [] t.scene a t.written (before || some) first t.shelf) (append_assoc done (line ∷ []) more)
+    (subst (λ (b : Bool). Progress kinds ((done ++ line ∷ []) ++ more) [] t.scene a t.written b first t.shelf)
     (or_assoc before (not fine) later ∙ ap (λ (b : Bool). before || b) (sym v.5))
-    (served_progress (done ++ line ∷ []) more (before || not fine) later between t a first step v.4))
+    (served_progress kinds (done ++ line ∷ []) more (before || not fine) later between t a first step v.4))
 
 -- all of them were answered
-pub answers_of : (ls : List (List ℕ)) (scene : Scene) (a b : Option (List ℕ)) (some : Bool) (first s : ShelfView) (p : Progress ls [] scene a b some first s)
-    → Answers ls (texts (run (first_world first) ls p.marks)) some first s
-answers_of ls scene a b some first s p = record {
+pub answers_of : (kinds : List Measure) (ls : List (List ℕ)) (scene : Scene) (a b : Option (List ℕ)) (some : Bool) (first s : ShelfView) (p : Progress kinds ls [] scene a b some first s)
+    → Answers kinds ls (texts (run (first_world kinds first) ls p.marks)) some first s
+answers_of kinds ls scene a b some first s p = record {
   marks = p.marks;
-  each = each_marked ls scene a b some first s p;
+  each = each_marked kinds ls scene a b some first s p;
   shelf = p.shelf;
   text = refl;
   refused = p.refused;
 }
 
 -- the sink failed at a line, and so many before it were answered
-pub record CutsAt (ls : List (List ℕ)) (count : ℕ) (before now : Option (List ℕ)) (first t : ShelfView) : Type 0 where
+pub record CutsAt (kinds : List Measure) (ls : List (List ℕ)) (count : ℕ) (before now : Option (List ℕ)) (first t : ShelfView) : Type 0 where
   pub gained : List ℕ
   pub appended : Appends before now gained
-  pub begins : Begins ls gained first t
+  pub begins : Begins kinds ls gained first t
   pub counted : length begins.marks ≡ count
 
 -- the sink failed at the next line
-pub progress_cut : (ls : List (List ℕ)) (line : List ℕ) (after : List (List ℕ)) (old new : Scene) (a b c : Option (List ℕ)) (some : Bool) (f : Failed) (first s t : ShelfView)
-    → Progress ls [] old a b some first s → Serves (Err f) old new b c line s t → CutsAt (ls ++ line ∷ after) (length ls) a c first t
+pub progress_cut : (kinds : List Measure) (ls : List (List ℕ)) (line : List ℕ) (after : List (List ℕ)) (old new : Scene) (a b c : Option (List ℕ)) (some : Bool) (f : Failed) (first s t : ShelfView)
+    → Progress kinds ls [] old a b some first s → Serves (Err f) old new b c line s t → CutsAt kinds (ls ++ line ∷ after) (length ls) a c first t
 unfolding progress_open
-progress_cut ls line after old new a b c some f first s t all v =
-    let p = progress_open ls (line ∷ after) old a b some first s all in
+progress_cut kinds ls line after old new a b c some f first s t all v =
+    let p = progress_open kinds ls (line ∷ after) old a b some first s all in
     let longer = ls ++ line ∷ after in
     let text = reply_text (answer (world_of old s.files) line v.mark).reply in
-    let so_far = texts (run (first_world first) longer p.marks) in
+    let so_far = texts (run (first_world kinds first) longer p.marks) in
     let n = v.sent.0 in
     record {
       gained = so_far ++ take n text;
@@ -275,12 +276,12 @@ progress_cut ls line after old new a b c some f first s t all v =
         line = line;
         later = after;
         here = p.left;
-        shelf = leaves_there longer (line ∷ after) line after old new a b c some first s t (Err f) p refl v;
+        shelf = leaves_there kinds longer (line ∷ after) line after old new a b c some first s t (Err f) p refl v;
         front = take n text;
         rest = drop n text;
         more = omega (arith, v.sent.1, length-drop n text);
-        cut = take-append-drop n text ∙ ap reply_text (alike_here longer (line ∷ after) line after old new a b c some first s t (Err f) p refl v).reply;
+        cut = take-append-drop n text ∙ ap reply_text (alike_here kinds longer (line ∷ after) line after old new a b c some first s t (Err f) p refl v).reply;
         text = refl;
       };
-      counted = each_marked ls old a b some first s all;
+      counted = each_marked kinds ls old a b some first s all;
     }

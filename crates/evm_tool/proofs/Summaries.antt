@@ -18,7 +18,7 @@ use Rattle.evm_model.specs.Runs.{World, Mark, Plain, NoMemory, NoShelf, Fetched,
 use Rattle.evm_model.proofs.RunLaws.{run_more, world_more, texts_more, drop_more, run_no_marks, after_no_marks}
 use Rattle.evm_outside.specs.Shelves.{Files}
 use Rattle.evm_session.specs.Answers.{IsAnswered, IsAsBefore, ShelfView, shelf_view, FaultsBy}
-use Rattle.evm_tool.specs.Generated.{own_world, is_own, replies_of, fine_in, refused_in, summary_by, Replies, Counts, SoFar, Sums, Summed, Generates, RefusalsAreLacks, NoneRefusedWithMemory}
+use Rattle.evm_tool.specs.Generated.{own_world, is_own, replies_of, fine_in, refused_in, summary_by, Replies, IsCounted, SoFar, Sums, Summed, Generates, RefusalsAreLacks, NoneRefusedWithMemory}
 use Rattle.evm_tool.specs.Streams.{AppendsPart}
 use Rattle.evm_tool.specs.declared.top.Status.{Status}
 use Rattle.evm_tool.specs.declared.top.Status.TheVariants.{Done, Refused, WriteFault}
@@ -106,7 +106,7 @@ further_kept passed rs r n last last2 text false t e g a h =
     ∙ sym (ap texts (drop-append-le passed rs (r ∷ []) many))
 
 pub so_far_more : (seed edits passed : ℕ) (line : List ℕ) (left : List (List ℕ)) (old new : Scene) (text : List ℕ) (fine : Bool) (f r f2 r2 : ℕ) (last last2 : List ℕ) → passed ≡ edits + 8 → SoFar seed edits (line ∷ left) old f r last
-    → Replies line old new text fine → Counts fine text passed f f2 r r2 last last2 → SoFar seed edits left new f2 r2 last2
+    → Replies line old new text fine → IsCounted fine text passed f f2 r r2 last last2 → SoFar seed edits left new f2 r2 last2
 so_far_more seed edits passed line left old new text fine f r f2 r2 last last2 p s v k =
     let first = own_world start in
     let ls = generated_lines seed edits in

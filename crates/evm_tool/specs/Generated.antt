@@ -80,7 +80,7 @@ RepliesTo (Ok fine) line old new text = Replies line old new text fine
 RepliesTo (Err lack) line old new text = Unit {0}
 
 -- one reply was counted, and kept where as many as are passed over came before
-pub record Counts (fine : Bool) (reply : List ℕ)
+pub record IsCounted (fine : Bool) (reply : List ℕ)
     (passed fine_old fine_new refused_old refused_new : ℕ) (last_old last_new : List ℕ) : Type 0 where
   pub fines : fine_new ≡ (if fine then fine_old + 1 else fine_old)
   pub refusals : refused_new ≡ (if fine then refused_old else refused_old + 1)

@@ -4,7 +4,7 @@ ghost use Rattle.std.specs.Prelude.{◌≡◌, ◌+◌, ◌<◌, ◌^◌, ◌++�
 ghost use Rattle.std.specs.FinMap as finite;
 ghost use Rattle.evm_model.specs.Scene.{start};
 ghost use Rattle.evm_outside.specs.Shelves.{is_file_name};
-ghost use Rattle.evm_tool.specs.Generated.{RepliesTo, Counts, SoFar, Sums, Generates, summary_by, RefusalsAreLacks, NoneRefusedWithMemory};
+ghost use Rattle.evm_tool.specs.Generated.{RepliesTo, IsCounted, SoFar, Sums, Generates, summary_by, RefusalsAreLacks, NoneRefusedWithMemory};
 ghost use Rattle.evm_tool.specs.Top.{WriteFaults};
 
 use super::send::send;
@@ -55,7 +55,7 @@ impl Tally {
     fn count(&mut self, fine: bool, reply: &[u8], passed_over: usize) -> Result<(), NoMemory>
         requires { self.old.fine + self.old.refused < 2 ^ 40 }
         ensures { OnOk result
-            (Counts fine reply.now passed_over self.old.fine self.new.fine self.old.refused
+            (IsCounted fine reply.now passed_over self.old.fine self.new.fine self.old.refused
             self.new.refused self.old.last.items self.new.last.items) }
     {
         if self.fine + self.refused >= passed_over {

@@ -2,9 +2,15 @@
 
 mod failing;
 mod files;
+mod meters;
 
+ghost use Rattle.std.specs.Prelude.{◌≡◌, ℕ, None, Some};
+ghost use Rattle.std.specs.List.{slice_get};
+
+use super::stock_meters;
 use super::take::{PIECE, SCRIPT_LIMIT};
 use super::top::{Status, evm_main};
+use evm_meter::Meter;
 use evm_outside::{MemShelf, MemSink, MemSource};
 use std::alloc::{AllocError, Global};
 use std::process::Abort;
@@ -44,25 +50,50 @@ fn no_files(alloc: Global) -> MemShelf {
     MemShelf::new(alloc, Vec::new(alloc))
 }
 
-/// Runs a script over a shelf, from a source and to a sink that do not fail.
-fn run_over(
+/// How the top call ends with the meters of the program.
+fn end_of_run(
+    alloc: Global,
+    words: &[String],
+    input: &mut MemSource,
+    output: &mut MemSink,
+    shelf: &mut MemShelf,
+) -> Result<Status, AllocError> {
+    let meters = stock_meters(alloc)?;
+    Ok(evm_main(alloc, words, input, output, shelf, meters))
+}
+
+/// Runs a script over a shelf and with these meters, from a source and to a sink that do not fail.
+fn run_over<M: Meter>(
     alloc: Global,
     script: Vec<u8>,
     shelf: &mut MemShelf,
-) -> Result<(Status, MemSink), Fail> {
+    meters: Vec<M>,
+) -> Result<(Status, MemSink), Fail>
+    requires { (k : ℕ) (m : M) → slice_get meters.items k ≡ Some m
+        → (M.reading m ≡ None) × (M.pending m ≡ None) }
+{
     let words = words_of(alloc, &["evm", "run"])?;
     let mut input = MemSource::new(script, PIECE, Vec::new(alloc));
     let mut output = MemSink::new(alloc, 4096, Vec::new(alloc))?;
-    let status = evm_main(alloc, words.as_slice(), &mut input, &mut output, shelf);
+    let status = evm_main(
+        alloc,
+        words.as_slice(),
+        &mut input,
+        &mut output,
+        shelf,
+        meters,
+    );
     Ok((status, output))
 }
 
 /// Runs a script where there are no files.
 fn run(alloc: Global, script: Vec<u8>) -> Result<(Status, MemSink), Fail> {
-    run_over(alloc, script, &mut no_files(alloc))
+    let meters = stock_meters(alloc)?;
+    run_over(alloc, script, &mut no_files(alloc), meters)
 }
 
-/// Runs a script over a shelf, and compares the replies and how it ends. The sign ` / ` stands between lines.
+/// Runs a script over a shelf with the meters of the program, and compares the replies and how it ends. The sign ` / ` stands
+/// between lines.
 fn expect(
     rt: &(impl Abort + AllocGlobal),
     shelf: &mut MemShelf,
@@ -70,8 +101,25 @@ fn expect(
     replies: &str,
     end: Status,
 ) -> Result<(), Fail> {
+    let meters = stock_meters(rt.alloc())?;
+    expect_with(rt, shelf, meters, script, replies, end)
+}
+
+/// The same with these meters.
+fn expect_with<M: Meter>(
+    rt: &(impl Abort + AllocGlobal),
+    shelf: &mut MemShelf,
+    meters: Vec<M>,
+    script: &str,
+    replies: &str,
+    end: Status,
+) -> Result<(), Fail>
+    requires { (k : ℕ) (m : M) → slice_get meters.items k ≡ Some m
+        → (M.reading m ≡ None) × (M.pending m ≡ None) }
+{
     let alloc = rt.alloc();
-    let (status, output) = run_over(alloc, lines_of(alloc, script)?.into_bytes(), shelf)?;
+    let script_bytes = lines_of(alloc, script)?.into_bytes();
+    let (status, output) = run_over(alloc, script_bytes, shelf, meters)?;
     let wanted = lines_of(alloc, replies)?;
     assert_eq!(rt;
         str::from_utf8(output.bytes()),
@@ -299,7 +347,7 @@ fn a_call_that_fails_cuts_the_replies(rt: HostRuntime) -> Result<(), Fail> {
         let mut input = MemSource::new(bytes_of(alloc, script)?, piece, vec![in alloc; failing]?);
         let mut output = MemSink::new(alloc, room, Vec::new(alloc))?;
         let mut shelf = no_files(alloc);
-        let status = evm_main(alloc, words.as_slice(), &mut input, &mut output, &mut shelf);
+        let status = end_of_run(alloc, words.as_slice(), &mut input, &mut output, &mut shelf)?;
         assert_eq!(rt; status, end, "at {script:?}");
         assert_eq!(rt;
             str::from_utf8(output.bytes()),
@@ -341,13 +389,14 @@ fn other_words_than_those_of_a_run_are_refused(rt: HostRuntime) -> Result<(), Fa
         let words = words_of(alloc, texts)?;
         let mut input = MemSource::new(bytes_of(alloc, "input a 2\n")?, PIECE, Vec::new(alloc));
         let mut output = MemSink::new(alloc, 64, Vec::new(alloc))?;
-        let status = evm_main(
+        let mut shelf = no_files(alloc);
+        let status = end_of_run(
             alloc,
             words.as_slice(),
             &mut input,
             &mut output,
-            &mut no_files(alloc),
-        );
+            &mut shelf,
+        )?;
         assert_eq!(rt; status, Status::Words, "at {texts:?}");
         assert_eq!(rt; output.bytes().len(), 0, "at {texts:?}");
     }
@@ -365,13 +414,14 @@ fn a_generated_script_is_summed_up(rt: HostRuntime) -> Result<(), Fail> {
         (7, "lines 1", Status::WriteFault),
     ] {
         let mut output = MemSink::new(alloc, room, Vec::new(alloc))?;
-        let status = evm_main(
+        let mut shelf = no_files(alloc);
+        let status = end_of_run(
             alloc,
             words.as_slice(),
             &mut input,
             &mut output,
-            &mut no_files(alloc),
-        );
+            &mut shelf,
+        )?;
         assert_eq!(rt; status, end);
         assert_eq!(rt; str::from_utf8(output.bytes()), Ok(written));
     }

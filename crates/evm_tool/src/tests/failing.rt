@@ -1,8 +1,8 @@
 //! Runs in which a call of the source, the sink or the shelf fails, and what the lines before it leave.
 
 use super::super::take::PIECE;
-use super::super::top::{Status, evm_main};
-use super::{lines_of, no_files, words_of};
+use super::super::top::Status;
+use super::{end_of_run, lines_of, no_files, words_of};
 use evm_outside::{MemShelf, MemSink, MemSource, Source};
 use std::alloc::{AllocError, Global};
 use std::str;
@@ -121,7 +121,7 @@ fn each_call_that_fails_leaves_the_lines_before_it(rt: HostRuntime) -> Result<()
         let sink = failing(alloc, device, Device::Sink, number)?;
         let mut output = MemSink::new(alloc, 64, sink)?;
         let mut shelf = MemShelf::new(alloc, failing(alloc, device, Device::Shelf, number)?);
-        let status = evm_main(alloc, words.as_slice(), &mut input, &mut output, &mut shelf);
+        let status = end_of_run(alloc, words.as_slice(), &mut input, &mut output, &mut shelf)?;
         assert_eq!(rt;
             str::from_utf8(output.bytes()),
             Ok(replies),
@@ -143,7 +143,7 @@ fn no_more_than_a_piece_is_read_past_a_line(rt: HostRuntime) -> Result<(), Fail>
     let mut input = MemSource::new(script, 1_000_000, Vec::new(alloc));
     let mut output = MemSink::new(alloc, 64, vec![in alloc; 0u64]?)?;
     let mut shelf = no_files(alloc);
-    let status = evm_main(alloc, words.as_slice(), &mut input, &mut output, &mut shelf);
+    let status = end_of_run(alloc, words.as_slice(), &mut input, &mut output, &mut shelf)?;
     assert_eq!(rt; status, Status::WriteFault);
     assert_eq!(rt; output.bytes().len(), 0);
     let mut rest = vec![in alloc; 0u8; 200_000]?;

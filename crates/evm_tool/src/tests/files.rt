@@ -1,8 +1,8 @@
 //! Runs that load and save files.
 
 use super::super::take::PIECE;
-use super::super::top::{Status, evm_main};
-use super::{bytes_of, expect, no_files, words_of};
+use super::super::top::Status;
+use super::{bytes_of, end_of_run, expect, no_files, words_of};
 use evm_outside::{MemShelf, MemSink, MemSource};
 use std::alloc::Global;
 use std::str;
@@ -317,7 +317,7 @@ fn a_line_whose_reply_is_cut_has_saved_its_file(rt: HostRuntime) -> Result<(), F
     let mut input = MemSource::new(bytes_of(alloc, script)?, PIECE, Vec::new(alloc));
     let mut output = MemSink::new(alloc, 64, vec![in alloc; 1u64]?)?;
     let mut shelf = shelf_of(alloc, BOX_FILE, NEVER)?;
-    let status = evm_main(alloc, words.as_slice(), &mut input, &mut output, &mut shelf);
+    let status = end_of_run(alloc, words.as_slice(), &mut input, &mut output, &mut shelf)?;
     assert_eq!(rt; status, Status::WriteFault);
     assert_eq!(rt; str::from_utf8(output.bytes()), Ok("ok 0\n"));
     assert_eq!(rt;
