@@ -390,13 +390,7 @@ fn other_words_than_those_of_a_run_are_refused(rt: HostRuntime) -> Result<(), Fa
         let mut input = MemSource::new(bytes_of(alloc, "input a 2\n")?, PIECE, Vec::new(alloc));
         let mut output = MemSink::new(alloc, 64, Vec::new(alloc))?;
         let mut shelf = no_files(alloc);
-        let status = end_of_run(
-            alloc,
-            words.as_slice(),
-            &mut input,
-            &mut output,
-            &mut shelf,
-        )?;
+        let status = end_of_run(alloc, words.as_slice(), &mut input, &mut output, &mut shelf)?;
         assert_eq!(rt; status, Status::Words, "at {texts:?}");
         assert_eq!(rt; output.bytes().len(), 0, "at {texts:?}");
     }
@@ -415,13 +409,7 @@ fn a_generated_script_is_summed_up(rt: HostRuntime) -> Result<(), Fail> {
     ] {
         let mut output = MemSink::new(alloc, room, Vec::new(alloc))?;
         let mut shelf = no_files(alloc);
-        let status = end_of_run(
-            alloc,
-            words.as_slice(),
-            &mut input,
-            &mut output,
-            &mut shelf,
-        )?;
+        let status = end_of_run(alloc, words.as_slice(), &mut input, &mut output, &mut shelf)?;
         assert_eq!(rt; status, end);
         assert_eq!(rt; str::from_utf8(output.bytes()), Ok(written));
     }

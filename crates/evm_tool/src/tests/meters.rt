@@ -78,7 +78,12 @@ fn row_counters(alloc: Global) -> Result<Vec<RowCounter>, AllocError>
     ensures { IfOk result (λ made. (k : ℕ) (m : RowCounter) → slice_get made.items k ≡ Some m
         → (m.reading ≡ None) × (m.pending ≡ None)) }
 {
-    Ok(vec![in alloc; RowCounter { reading: None, pending: None }]?)
+    Ok(vec![in alloc;
+        RowCounter {
+            reading: None,
+            pending: None
+        },
+    ]?)
 }
 
 /// Two meters of content. The first has no memory at its second call of `begin` or `prepare`, the second always has some.
