@@ -72,6 +72,22 @@ def edits(count):
     return script + [f"{question} {name}" for name in "upw" for question in ("content", "boundary")]
 
 
+WATCHED = ("a", "b", "c", "u", "v", "w")
+
+
+def watched(count):
+    """The same edits under the six meters of the program."""
+    script = edits(count)
+    return script[:8] + [f"meter {slot} {name}" for slot, name in enumerate(WATCHED)] + script[8:]
+
+
+def asked(count):
+    """The same edits, with both measures of six names asked after each."""
+    script = edits(count)
+    questions = [f"{question} {name}" for name in WATCHED for question in ("content", "boundary")]
+    return script[:8] + [line for edit in script[8:-6] for line in [edit] + questions] + script[-6:]
+
+
 def beside(count):
     """Toggles of one cell beside 51,200 separate cells, under two formulas."""
     with open(BUILD / "checker.pgm", "wb") as file:
@@ -225,6 +241,10 @@ class Bench:
     def alone(self, make):
         return lambda size: (self.answer([self.evm, "run"], make(size))[0], "no room", None)
 
+    def other(self, make, way):
+        """One script beside another of the same program."""
+        return lambda size: (self.answer([self.evm, "run"], make(size))[0], self.answer([self.evm, "run"], way(size))[0], None)
+
     def merges(self, rows):
         """One `def x xor a b` beside one call of the merge loop: what thirty more of them take, each with a `drop`."""
         load, pair = lists(rows), ["def x xor a b", "drop x"]
@@ -256,6 +276,8 @@ def main():
     bench.table("Unions of random boxes in a cube of 64, four Booleans, measures", "boxes in each", (40, 160, 640), bench.voxels(booleans, 64), "dense arrays")
     bench.table("The same sixty boxes in ever larger cubes", "cells a side", (64, 128, 256), bench.voxels(room, None), "dense arrays")
     bench.table("Small edits under five formulas in a cube of 64", "edits", (1000, 4000, 16000), bench.voxels(edits, 64), "dense arrays")
+    bench.table("The same edits under six meters", "edits", (1000, 10000), bench.other(watched, edits), "no meters")
+    bench.table("The same edits under six meters, and asked", "edits", (250, 1000), bench.other(watched, asked), "content and boundary asked")
     bench.table("Toggles beside a scan of 409,600 vertices, two formulas", "toggles", (20, 200, 2000), bench.voxels(beside, 128), "dense arrays")
     bench.table("Small edits of a plan of 8000 boxes, one formula", "edits", (100, 1000, 10000), bench.alone(plan), "dense arrays")
     bench.table("A scan read and measured", "samples a side", (48, 96, 192), bench.voxels(scan, None), "dense arrays")
