@@ -1,6 +1,6 @@
 //! Names of files, and the forms that files have.
 
-ghost use Rattle.std.specs.Prelude.{◌≡◌, ◌<◌, length, slice_index, true, false, MatchOption};
+ghost use Rattle.std.specs.Prelude.{◌≡◌, true, false, MatchOption};
 ghost use Rattle.evm_outside.specs.Shelves.{is_file_name};
 
 use super::numbers::Num;
@@ -41,21 +41,6 @@ impl FileName {
             Some(bytes) => Some(FileName { bytes }),
             None => unreachable!(),
         }
-    }
-
-    /// How many bytes it has: 1 to 64.
-    pub fn len(&self) -> usize
-        ensures { result ≡ length self.now }
-    {
-        self.bytes.len()
-    }
-
-    /// The byte at an index below `len`.
-    pub fn byte(&self, k: usize) -> u8
-        requires { k < length self.now }
-        ensures { result ≡ slice_index self.now k }
-    {
-        self.bytes()[k]
     }
 
     /// The bytes, which keep the rule of file names.

@@ -2,6 +2,7 @@
 
 ghost use Rattle.std.specs.Prelude.{◌≡◌, map};
 ghost use Rattle.evm_script.specs.Formulas.{formula_of, formula_by};
+ghost use Rattle.evm_script.specs.Operands.{operands_of};
 
 use super::names::Name;
 use super::numbers::{Num, Nums};
@@ -81,6 +82,39 @@ pub enum Formula {
         lo: Num,
         hi: Num,
     },
+}
+
+/// The names that a formula reads, in the order in which it states them. It owns them.
+#[derive(Clone, Copy, Debug, PartialEq, Eq)]
+pub enum Operands {
+    /// Two names, which may be the same.
+    Two(Name, Name),
+    /// One name.
+    One(Name),
+    /// No name.
+    None,
+}
+
+impl Formula {
+    /// Its operands: the names that it reads. Takes no memory.
+    pub fn operands(&self) -> Operands
+        ensures { result ≡ operands_of self.now }
+    {
+        match *self {
+            Formula::Or { a, b }
+            | Formula::And { a, b }
+            | Formula::Sub { a, b }
+            | Formula::Xor { a, b } => Operands::Two(a, b),
+            Formula::Box { .. } => Operands::None,
+            Formula::Shift { a, .. }
+            | Formula::Mirror { a, .. }
+            | Formula::Swap { a, .. }
+            | Formula::Clip { a, .. }
+            | Formula::Slice { a, .. }
+            | Formula::Proj { a, .. }
+            | Formula::Lift { a, .. } => Operands::One(a),
+        }
+    }
 }
 
 /// The formula that the words after `def NAME` make.

@@ -180,8 +180,6 @@ fn refuses_other_lines(rt: HostRuntime) -> Result<(), Fail> {
 fn keeps_the_rule_of_file_names(rt: HostRuntime) -> Result<(), Fail> {
     let longest = [b'x'; 64];
     let file = FileName::of(&longest).ok_or("file")?;
-    assert_eq!(rt; file.len(), 64);
-    assert_eq!(rt; file.byte(63), b'x');
     assert_eq!(rt; file.bytes(), longest.as_slice());
     assert!(rt; FileName::of(&[b'x'; 65]).is_none());
     assert!(rt; FileName::of(b"").is_none());
@@ -224,10 +222,11 @@ fn prints_and_counts(rt: HostRuntime) -> Result<(), Fail> {
 #[test]
 fn lends_names_and_numbers(rt: HostRuntime) -> Result<(), Fail> {
     let name = Name::of(b"a_1").ok_or("name")?;
-    assert_eq!(rt; name.len(), 3);
-    assert_eq!(rt; name.byte(1), b'_');
     assert_eq!(rt; name.bytes(), b"a_1".as_slice());
     assert!(rt; name.same(&name));
+    let b = Name::of(b"b").ok_or("name")?;
+    let both = Formula::Sub { a: name, b };
+    assert_eq!(rt; both.operands(), Operands::Two(name, b));
     assert_eq!(rt; Num::within(-7).value(), -7);
     let nums = Nums::within(&[4, -5]);
     assert_eq!(rt; nums.len(), 2);

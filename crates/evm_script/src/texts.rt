@@ -8,14 +8,14 @@ ghost use Rattle.evm_text.specs.Numbers.{in_number_range};
 ghost use Rattle.evm_script.specs.Words.{is_name, keeps_nums};
 ghost use Rattle.evm_text.specs.Spaced.{spaced};
 
-use super::command::NoMemory;
 use super::files::FileName;
 use super::names::Name;
 use super::numbers::{Num, Nums};
+use std::alloc::AllocError;
 use std::io::Write;
 
 /// Appends a word.
-pub(crate) fn put_word(text: &mut Vec<u8>, word: &[u8]) -> Result<(), NoMemory>
+pub(crate) fn put_word(text: &mut Vec<u8>, word: &[u8]) -> Result<(), AllocError>
     ensures { OnOk result (text.new.items ≡ text.old.items ++ spaced (word.now ∷ [])) }
 {
     text.extend_from_slice(word)?;
@@ -23,7 +23,7 @@ pub(crate) fn put_word(text: &mut Vec<u8>, word: &[u8]) -> Result<(), NoMemory>
 }
 
 /// Appends a first word and a name.
-pub(crate) fn put_name(text: &mut Vec<u8>, first: &[u8], name: &Name) -> Result<(), NoMemory>
+pub(crate) fn put_name(text: &mut Vec<u8>, first: &[u8], name: &Name) -> Result<(), AllocError>
     ensures text { OnOk result (text.new.items
         ≡ text.old.items ++ spaced (first.now ∷ name.now ∷ [])) }
     ensures rule { OnOk result (is_name name.now ≡ true) }
@@ -41,7 +41,7 @@ pub(crate) fn put_name_number(
     first: &[u8],
     name: &Name,
     number: &Num,
-) -> Result<(), NoMemory>
+) -> Result<(), AllocError>
     ensures text { OnOk result (text.new.items
         ≡ text.old.items ++ spaced (first.now ∷ name.now ∷ signed_decimal number.now ∷ [])) }
     ensures rule { OnOk result (is_name name.now ≡ true) }
@@ -59,7 +59,7 @@ pub(crate) fn put_name_two(
     name: &Name,
     m: &Num,
     n: &Num,
-) -> Result<(), NoMemory>
+) -> Result<(), AllocError>
     ensures text { OnOk result (text.new.items
         ≡ text.old.items
         ++ spaced (first.now ∷ name.now ∷ signed_decimal m.now ∷ signed_decimal n.now ∷ [])) }
@@ -80,7 +80,7 @@ pub(crate) fn put_name_three(
     k: &Num,
     m: &Num,
     n: &Num,
-) -> Result<(), NoMemory>
+) -> Result<(), AllocError>
     ensures text { OnOk result (text.new.items
         ≡ text.old.items
         ++ spaced (first.now ∷ name.now ∷ signed_decimal k.now ∷ signed_decimal m.now ∷ signed_decimal n.now ∷ [])) }
@@ -100,7 +100,7 @@ pub(crate) fn put_name_numbers(
     first: &[u8],
     name: &Name,
     nums: &Nums,
-) -> Result<(), NoMemory>
+) -> Result<(), AllocError>
     ensures text { OnOk result (text.new.items
         ≡ text.old.items ++ spaced (first.now ∷ name.now ∷ map signed_decimal nums.now)) }
     ensures rule { OnOk result (is_name name.now ≡ true) }
@@ -116,7 +116,7 @@ pub(crate) fn put_two_names(
     first: &[u8],
     a: &Name,
     b: &Name,
-) -> Result<(), NoMemory>
+) -> Result<(), AllocError>
     ensures text { OnOk result (text.new.items
         ≡ text.old.items ++ spaced (first.now ∷ a.now ∷ b.now ∷ [])) }
     ensures rule_a { OnOk result (is_name a.now ≡ true) }
@@ -136,7 +136,7 @@ pub(crate) fn put_form_file(
     name: &Name,
     form: &[u8],
     file: &FileName,
-) -> Result<(), NoMemory>
+) -> Result<(), AllocError>
     ensures text { OnOk result (text.new.items
         ≡ text.old.items ++ spaced (first.now ∷ name.now ∷ form.now ∷ file.now ∷ [])) }
     ensures rule { OnOk result (is_name name.now ≡ true) }
@@ -154,7 +154,7 @@ pub(crate) fn put_threshold_file(
     form: &[u8],
     threshold: &Num,
     file: &FileName,
-) -> Result<(), NoMemory>
+) -> Result<(), AllocError>
     ensures text { OnOk result (text.new.items
         ≡ text.old.items
         ++ spaced (first.now ∷ name.now ∷ form.now ∷ signed_decimal threshold.now ∷ file.now ∷ [])) }
@@ -169,7 +169,12 @@ pub(crate) fn put_threshold_file(
 }
 
 /// Appends a first word, a name and a word.
-fn put_name_word(text: &mut Vec<u8>, first: &[u8], name: &Name, word: &[u8]) -> Result<(), NoMemory>
+fn put_name_word(
+    text: &mut Vec<u8>,
+    first: &[u8],
+    name: &Name,
+    word: &[u8],
+) -> Result<(), AllocError>
     ensures text { OnOk result (text.new.items
         ≡ text.old.items ++ spaced (first.now ∷ name.now ∷ word.now ∷ [])) }
     ensures rule { OnOk result (is_name name.now ≡ true) }
@@ -181,7 +186,7 @@ fn put_name_word(text: &mut Vec<u8>, first: &[u8], name: &Name, word: &[u8]) -> 
 }
 
 /// Appends a space and a file.
-fn put_file(text: &mut Vec<u8>, file: &FileName) -> Result<(), NoMemory>
+fn put_file(text: &mut Vec<u8>, file: &FileName) -> Result<(), AllocError>
     ensures text { OnOk result (text.new.items ≡ text.old.items ++ 32 ∷ file.now) }
     ensures rule { OnOk result (is_file_name file.now ≡ true) }
 {
@@ -197,7 +202,7 @@ pub(crate) fn put_number_numbers(
     first: &[u8],
     number: &Num,
     nums: &Nums,
-) -> Result<(), NoMemory>
+) -> Result<(), AllocError>
     ensures text { OnOk result (text.new.items
         ≡ text.old.items
         ++ spaced (first.now ∷ signed_decimal number.now ∷ map signed_decimal nums.now)) }
@@ -214,7 +219,7 @@ pub(crate) fn put_number_name(
     first: &[u8],
     number: &Num,
     name: &Name,
-) -> Result<(), NoMemory>
+) -> Result<(), AllocError>
     ensures text { OnOk result (text.new.items
         ≡ text.old.items ++ spaced (first.now ∷ signed_decimal number.now ∷ name.now ∷ [])) }
     ensures range { OnOk result (in_number_range number.now ≡ true) }
@@ -232,7 +237,7 @@ pub(crate) fn put_first_number(
     text: &mut Vec<u8>,
     first: &[u8],
     number: &Num,
-) -> Result<(), NoMemory>
+) -> Result<(), AllocError>
     ensures text { OnOk result (text.new.items
         ≡ text.old.items ++ spaced (first.now ∷ signed_decimal number.now ∷ [])) }
     ensures range { OnOk result (in_number_range number.now ≡ true) }
@@ -243,15 +248,15 @@ pub(crate) fn put_first_number(
 }
 
 /// Appends a space and a number.
-fn put_number(text: &mut Vec<u8>, number: i64) -> Result<(), NoMemory>
+fn put_number(text: &mut Vec<u8>, number: i64) -> Result<(), AllocError>
     ensures { OnOk result (text.new.items ≡ text.old.items ++ 32 ∷ signed_decimal number) }
 {
-    write!(text, " {number}").map_err(|_| NoMemory)
+    write!(text, " {number}").map_err(|_| AllocError)
 }
 
 /// Appends each number with a space before it.
 #[tactic(auto, using(evm_text::proofs::Spaced::numbers_more))]
-fn put_numbers(text: &mut Vec<u8>, nums: &Nums) -> Result<(), NoMemory>
+fn put_numbers(text: &mut Vec<u8>, nums: &Nums) -> Result<(), AllocError>
     ensures text { OnOk result (text.new.items ≡ text.old.items ++ flat_map
         (λ n. 32 ∷ signed_decimal n) nums.now) }
     ensures range { OnOk result (keeps_nums nums.now ≡ true) }

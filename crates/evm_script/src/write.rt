@@ -11,7 +11,7 @@ ghost use Rattle.evm_script.specs.Printed.{printed, formula_words, load_words, s
 ghost use Rattle.evm_script.specs.declared.command.Command as commands;
 ghost use Rattle.evm_script.specs.declared.formula.Formula as formulas;
 
-use super::command::{Command, NoMemory};
+use super::command::Command;
 use super::files::{FileName, LoadForm, SaveForm};
 use super::formula::Formula;
 use super::names::Name;
@@ -19,7 +19,7 @@ use super::texts::{
     put_first_number, put_form_file, put_name, put_name_number, put_name_numbers, put_name_three,
     put_name_two, put_number_name, put_number_numbers, put_threshold_file, put_two_names, put_word,
 };
-use std::alloc::Global;
+use std::alloc::{AllocError, Global};
 
 /// Room for the text of each command: the definition by a shift takes the most, 219 bytes.
 const TEXT_ROOM: usize = 224;
@@ -31,8 +31,8 @@ const TEXT_ROOM: usize = 224;
 ///
 /// # Errors
 ///
-/// `NoMemory` where there is none for the text.
-pub fn write_line(alloc: Global, command: &Command) -> Result<Vec<u8>, NoMemory>
+/// `AllocError` where there is none for the text.
+pub fn write_line(alloc: Global, command: &Command) -> Result<Vec<u8>, AllocError>
     ensures text { IfOk result (λ v. v.items ≡ printed command.now) }
     ensures back { IfOk result (λ v. line_command v.items ≡ Ok command.now) }
 {
@@ -47,8 +47,8 @@ pub fn write_line(alloc: Global, command: &Command) -> Result<Vec<u8>, NoMemory>
 ///
 /// # Errors
 ///
-/// `NoMemory` where there is none for the text.
-pub fn write_formula(alloc: Global, formula: &Formula) -> Result<Vec<u8>, NoMemory>
+/// `AllocError` where there is none for the text.
+pub fn write_formula(alloc: Global, formula: &Formula) -> Result<Vec<u8>, AllocError>
     ensures text { IfOk result (λ v. v.items ≡ spaced (formula_words formula.now)) }
     ensures back { IfOk result (λ v. formula_of (words v.items) ≡ Some formula.now) }
 {
@@ -58,7 +58,7 @@ pub fn write_formula(alloc: Global, formula: &Formula) -> Result<Vec<u8>, NoMemo
 }
 
 /// Appends the text of a command, whose names, numbers and files keep their rules.
-fn put_command(text: &mut Vec<u8>, command: &Command) -> Result<(), NoMemory>
+fn put_command(text: &mut Vec<u8>, command: &Command) -> Result<(), AllocError>
     ensures text { OnOk result (text.new.items ≡ text.old.items ++ printed command.now) }
     ensures rules { OnOk result (KeepsRules command.now) }
 {
@@ -95,7 +95,7 @@ fn put_load(
     name: &Name,
     form: &LoadForm,
     file: &FileName,
-) -> Result<(), NoMemory>
+) -> Result<(), AllocError>
     ensures text { OnOk result (text.new.items
         ≡ text.old.items ++ spaced (codes "load" ∷ name.now ∷ load_words form.now file.now)) }
     ensures rule { OnOk result (is_name name.now ≡ true) }
@@ -120,7 +120,7 @@ fn put_save(
     name: &Name,
     form: &SaveForm,
     file: &FileName,
-) -> Result<(), NoMemory>
+) -> Result<(), AllocError>
     ensures text { OnOk result (text.new.items
         ≡ text.old.items ++ spaced (codes "save" ∷ name.now ∷ save_words form.now file.now)) }
     ensures rule { OnOk result (is_name name.now ≡ true) }
@@ -136,7 +136,7 @@ fn put_save(
 
 /// Appends the text of a definition.
 #[tactic(auto, using(crate::proofs::Spaced::spaced_formula))]
-fn put_definition(text: &mut Vec<u8>, name: &Name, formula: &Formula) -> Result<(), NoMemory>
+fn put_definition(text: &mut Vec<u8>, name: &Name, formula: &Formula) -> Result<(), AllocError>
     ensures text { OnOk result (text.new.items
         ≡ text.old.items ++ spaced (codes "def" ∷ name.now ∷ formula_words formula.now)) }
     ensures rule { OnOk result (is_name name.now ≡ true) }
@@ -148,7 +148,7 @@ fn put_definition(text: &mut Vec<u8>, name: &Name, formula: &Formula) -> Result<
 }
 
 /// Appends the words of a formula, whose names and numbers keep their rules.
-fn put_formula(text: &mut Vec<u8>, formula: &Formula) -> Result<(), NoMemory>
+fn put_formula(text: &mut Vec<u8>, formula: &Formula) -> Result<(), AllocError>
     ensures text { OnOk result (text.new.items
         ≡ text.old.items ++ spaced (formula_words formula.now)) }
     ensures rules { OnOk result (FormulaKeepsRules formula.now) }
