@@ -42,6 +42,15 @@ impl Tiles {
         ensures { IfOk result (λ t. t ≡ vertices_of a.entry) }
     {
         let solid = own(alloc, a)?;
+        let made = Tiles::from_solid(alloc, solid)?;
+        Ok(made)
+    }
+
+    /// The tree of a solid that is given away. It is one leaf; an edit cuts the leaves that it meets. Copies no rows. After want of
+    /// memory the solid is gone.
+    pub fn from_solid(alloc: Global, solid: Solid) -> Result<Tiles, NoMemory>
+        ensures { IfOk result (λ t. t ≡ solid) }
+    {
         solid.facts();
         let dim = solid.dim();
         let root = planted(alloc, solid)?;
@@ -111,11 +120,12 @@ impl Tiles {
         ensures cells { IfOk result (λ t. cells_of t ≡ just_one self.now (vertices_of d.entry)) }
     {
         let change = own(alloc, d)?;
-        self.changed(alloc, &change)
+        self.xor_solid(alloc, &change)
     }
 
-    /// The same with a change that is owned.
-    fn changed(&self, alloc: Global, d: &Solid) -> Result<Tiles, NoMemory>
+    /// The exclusive or with a change, as `xor`, where that is a solid. The change is not copied but into a leaf that it is set beside.
+    /// Takes memory for the leaves that it meets with the cuts above them.
+    pub fn xor_solid(&self, alloc: Global, d: &Solid) -> Result<Tiles, NoMemory>
         requires { d.now.dim ≡ self.now.dim }
         ensures dim { IfOk result (λ t. t.dim ≡ self.now.dim) }
         ensures rows { IfOk result (λ t. t.rows ≡ just_one_rows self.now d.now) }

@@ -1,7 +1,7 @@
 use Rattle.std.proofs.Common.{◌≡◌, [], ap, sym, refl, ◌∙◌}
 use Rattle.evm_rows.specs.Rows.{Vertices, cells_of}
 use Rattle.evm_tiles.proofs.Showing.{shown_cells, xor_shown_cells, xor_shown_rows, same_cells_none, same_rows_none, shown_rows, no_rows}
-use Rattle.evm_tiles.proofs.tiles.Tiles.changed.Goals as goal
+use Rattle.evm_tiles.proofs.tiles.Tiles.xor_solid.Goals as goal
 
 pub returns-then-len-eq0-clause-rows : goal.returns-then-len-eq0-clause-rows
 returns-then-len-eq0-clause-rows c =
