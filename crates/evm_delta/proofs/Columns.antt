@@ -17,7 +17,7 @@ use Rattle.evm_cells.proofs.Insides.{has-clip_of}
 use Rattle.evm_cells.proofs.Slices.{coord, each-with_at, all-coord, cell_of_with_at}
 use Rattle.evm_cells.proofs.Lifts.{some_passing}
 use Rattle.evm_rows.specs.Rows.{Vertices, cells_of}
-use Rattle.evm_tiles.proofs.Planes.{long, each_flip}
+use Rattle.evm_cutting.proofs.Planes.{long, each_flip}
 use Rattle.evm_delta.specs.Hulls.{IsLow, IsHigh, IsAround, AgreesOver}
 use Rattle.evm_delta.proofs.HullLaws.{coord-take, is_inside}
 use Rattle.evm_delta.proofs.ShadowLaws.{has-proj}

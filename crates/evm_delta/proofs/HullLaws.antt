@@ -15,7 +15,7 @@ use Rattle.evm_cells.proofs.Layers.{evm-empty}
 use Rattle.evm_cells.proofs.Slices.{coord, all-coord}
 use Rattle.evm_cells.proofs.Sides.{rows_under, rows_over}
 use Rattle.evm_rows.specs.Rows.{Vertices}
-use Rattle.evm_tiles.proofs.Planes.{long}
+use Rattle.evm_cutting.proofs.Planes.{long}
 use Rattle.evm_delta.specs.Hulls.{IsAround}
 
 -- ---- lists, coordinate by coordinate

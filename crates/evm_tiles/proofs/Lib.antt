@@ -1,4 +1,3 @@
-pub mod Planes
 pub mod Parts
 pub mod Trees
 pub mod Showing

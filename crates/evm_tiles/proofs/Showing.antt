@@ -1,5 +1,6 @@
 -- What a clause sees of a tree of tiles, and the cells of the tree.
-use Rattle.std.proofs.Common.{◌≡◌, ℕ, List, [], ◌∷◌, length, ℤ, refl, sym, ap, ◌∙◌, arith}
+use Rattle.std.proofs.Common.{◌≡◌, ℕ, Bool, true, List, [], ◌∷◌, length, ℤ, refl, sym, ap, ◌∙◌, arith}
+use Rattle.std.specs.List.{list_all}
 use Rattle.evm_cells.specs.Booleans.{xor_cells}
 use Rattle.evm_cells.specs.Shapes.{clip}
 use Rattle.evm_cells.specs.Vertices.{evm, cells}
@@ -60,3 +61,7 @@ shown_rows n x v e = sym (ap (λ (w : Vertices). w.rows) e) ∙ ap (evm n) (cell
 pub no_rows : (V : List (List ℤ)) → length V ≡ 0 → V ≡ []
 no_rows [] e = refl
 no_rows (p ∷ V) e = absurd (omega arith)
+
+-- a test of rows, when none is left
+pub none_left : (t : List ℤ → Bool) (R A : List (List ℤ)) → R ≡ [] → list_all t R ≡ list_all t A → true ≡ list_all t A
+none_left t R A e h = sym (ap (list_all t) e) ∙ h

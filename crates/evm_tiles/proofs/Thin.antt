@@ -17,7 +17,7 @@ use Rattle.evm_cells.proofs.Coords.{limit-small, cell_is, eq_yes, le_yes, lt_yes
 use Rattle.evm_cells.proofs.Universe.{cell_parts, point_from, same_sets, member_passes}
 use Rattle.evm_cells.proofs.Slices.{cell_set-slice, has-slice_of}
 use Rattle.evm_rows.proofs.BoxTests.{same32}
-use Rattle.evm_tiles.proofs.Planes.{ends_of, six, each_left, each_flip, all_take, all_equal, long, cell_low, cell_high}
+use Rattle.evm_cutting.proofs.Planes.{ends_of, six, each_left, each_flip, all_take, all_equal, long, cell_low, cell_high}
 
 abbrev pub five : ℤ → List ℤ
 five x = x ∷ x ∷ x ∷ x ∷ x ∷ []

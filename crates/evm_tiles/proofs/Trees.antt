@@ -13,7 +13,7 @@ use Rattle.evm_cells.proofs.Combine.{cell_set-xor}
 use Rattle.evm_rows.specs.Rows.{Vertices, cells_of}
 use Rattle.evm_tiles.specs.declared.node.Node.{Node}
 use Rattle.evm_tiles.specs.declared.node.Node.TheVariants.{Leaf, Cut, Cut'}
-use Rattle.evm_tiles.specs.Splits.{IsBetween}
+use Rattle.evm_cutting.specs.Cuts.{IsBetween}
 use Rattle.evm_tiles.specs.Trees.{node_cells, is_well, node_count}
 
 pub cell_set-node : (n : ℕ) (x : Node) → IsCellSet n (node_cells n x)

@@ -1,10 +1,9 @@
 -- What a clause sees of a tree of tiles.
-use Rattle.std.specs.Prelude.{◌≡◌, ℕ, ◌-◌, ◌<◌, ◌≤◌, Bool, true, ℤ, pos, int_le, List, filter, get_or}
+use Rattle.std.specs.Prelude.{◌≡◌, ℕ, ◌-◌, ◌<◌, ◌≤◌, Bool, true, ℤ, pos, int_le, List, get_or}
 use Rattle.std.specs.List.{list_all}
 use Rattle.evm_cells.specs.Booleans.{xor_cells}
 use Rattle.evm_cells.specs.Sections.{slice}
 use Rattle.evm_cells.specs.Shapes.{clip}
-use Rattle.evm_cells.specs.Windows.{is_under, is_over}
 use Rattle.evm_cells.specs.Vertices.{evm}
 use Rattle.evm_rows.specs.Rows.{Vertices, cells_of, xor_rows}
 use Rattle.evm_tiles.specs.declared.node.Node.{Node}
@@ -34,13 +33,6 @@ just_one v d = xor_cells v.dim (cells_of v) (cells_of d)
 
 abbrev pub just_one_rows : Vertices → Vertices → List (List ℤ)
 just_one_rows v d = xor_rows v.dim v.rows d.rows
-
--- the cells of a solid below a height of an axis, and those above
-abbrev pub cells_under : ℕ → ℤ → Vertices → List (List ℤ)
-cells_under axis at v = filter (is_under axis at) (cells_of v)
-
-abbrev pub cells_over : ℕ → ℤ → Vertices → List (List ℤ)
-cells_over axis at v = filter (is_over axis at) (cells_of v)
 
 -- no row is above a height of an axis, and none below
 abbrev pub no_row_above : ℕ → ℤ → Vertices → Bool

@@ -7,9 +7,11 @@ ghost use Rattle.evm_cells.specs.Boxes.{is_box};
 ghost use Rattle.evm_rows.specs.Rows.{cells_of};
 ghost use Rattle.evm_rows.specs.View.{vertices_of};
 ghost use Rattle.evm_tiles.specs.Trees.{node_cells, node_window, is_well, IsBoth, IsChanged, IsOne};
-ghost use Rattle.evm_tiles.specs.Splits.{IsApart, IsBetween, IsSplit};
+ghost use Rattle.evm_cutting.specs.Cuts.{IsBetween};
+ghost use Rattle.evm_tiles.specs.Splits.{IsApart};
 
-use crate::solids::{Side, both, over, side_of, under};
+use crate::solids::{Side, both, side_of};
+use evm_cutting::{halved, over, under};
 use evm_rows::{NoMemory, Rows, Solid, limit};
 use evm_shapes::clip;
 use std::alloc::Global;
@@ -181,84 +183,6 @@ fn joined(
             Ok(node)
         }
     }
-}
-
-/// A middle coordinate on an axis, above the least one, or none.
-fn middle(alloc: Global, a: Rows<'_>, axis: usize) -> Result<Option<i32>, NoMemory>
-    requires { axis < (vertices_of a).dim }
-    ensures { IfOk result (λ o. IfSome o (λ at. IsBetween (vertices_of a.entry).dim axis at)) }
-{
-    let limit = limit(a.dim());
-    let step = a.len() / 1024 + 1;
-    let mut heights = Vec::with_capacity(alloc, 1024)?;
-    let mut row = 0;
-    while row < a.len() {
-        heights.push(a.coord(row, axis + 1))?;
-        row = row.saturating_add(step);
-    }
-    heights.sort_unstable();
-    let Some(least) = heights.first() else {
-        return Ok(None);
-    };
-    let mut at = heights[heights.len() / 2];
-    for height in heights.as_slice() {
-        if at == *least {
-            at = *height;
-        }
-    }
-    if -limit < at && at < limit && *least < at {
-        Ok(Some(at))
-    } else {
-        Ok(None)
-    }
-}
-
-/// A solid, cut in two.
-#[derive(Drop)]
-pub(crate) struct Split {
-    axis: usize,
-    at: i32,
-    low: Solid,
-    high: Solid,
-}
-
-/// The two sides of a plane, if each is clearly smaller than the whole.
-fn split_at(alloc: Global, solid: &Solid, axis: usize, at: i32) -> Result<Option<Split>, NoMemory>
-    requires { IsBetween solid.now.dim axis at }
-    ensures { IfOk result (λ o. IfSome o (IsSplit solid.now)) }
-{
-    let most = solid.len() - solid.len() / 8;
-    let low = under(alloc, solid.rows(), axis, at)?;
-    let high = over(alloc, solid.rows(), axis, at)?;
-    if low.len() <= most && high.len() <= most {
-        Ok(Some(Split {
-            axis,
-            at,
-            low,
-            high,
-        }))
-    } else {
-        Ok(None)
-    }
-}
-
-/// The two sides of a plane across some axis, the first that serves from `first` on.
-fn halved(alloc: Global, solid: &Solid, first: usize) -> Result<Option<Split>, NoMemory>
-    ensures { IfOk result (λ o. IfSome o (IsSplit solid.now)) }
-{
-    solid.facts();
-    let dim = solid.dim();
-    for turn in 0..dim {
-        let axis = (first % dim + turn) % dim;
-        let plane = middle(alloc, solid.rows(), axis)?;
-        if let Some(at) = plane {
-            let made = split_at(alloc, solid, axis, at)?;
-            if made.is_some() {
-                return Ok(made);
-            }
-        }
-    }
-    Ok(None)
 }
 
 /// The tree of a solid, whose leaves have at most `most` rows where they can be cut.

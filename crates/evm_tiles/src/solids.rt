@@ -1,14 +1,12 @@
-//! Solids by their cells, and the two sides of a plane.
+//! Solids by their cells, and the side of a plane that one is on.
 
-ghost use Rattle.std.specs.Prelude.{◌≡◌, ◌<◌, ◌<ℤ◌, neg_ℤ, pos, IfOk};
-ghost use Rattle.evm_cells.specs.Limits.{limit};
+ghost use Rattle.std.specs.Prelude.{◌≡◌, ◌<◌, IfOk};
 ghost use Rattle.evm_rows.specs.Rows.{cells_of};
 ghost use Rattle.evm_rows.specs.View.{vertices_of};
-ghost use Rattle.evm_tiles.specs.Shown.{just_one, cells_under, cells_over, no_row_above, no_row_below};
+ghost use Rattle.evm_tiles.specs.Shown.{just_one, no_row_above, no_row_below};
 ghost use Rattle.evm_tiles.specs.Sides.{HasSide};
 
-use evm_rows::{DIM_MAX, NoMemory, Rows, Solid, limit, split_row, xor};
-use evm_shapes::clip;
+use evm_rows::{NoMemory, Rows, Solid, split_row, xor};
 use std::alloc::Global;
 
 /// The cells of just one of two solids.
@@ -72,38 +70,4 @@ pub(crate) fn side_of(a: Rows<'_>, axis: usize, at: i32) -> Side
     } else {
         Side::Both
     }
-}
-
-/// What is below a plane.
-pub(crate) fn under(alloc: Global, a: Rows<'_>, axis: usize, at: i32) -> Result<Solid, NoMemory>
-    requires axis { axis < (vertices_of a).dim }
-    requires low { neg_ℤ (pos (limit (vertices_of a).dim)) <ℤ at }
-    requires high { at <ℤ pos (limit (vertices_of a).dim) }
-    ensures dim { IfOk result (λ s. s.dim ≡ (vertices_of a.entry).dim) }
-    ensures cells { IfOk result (λ s. cells_of s ≡ cells_under axis at (vertices_of a.entry)) }
-{
-    let dim = a.dim();
-    let limit = limit(dim);
-    let lo = [-limit; DIM_MAX];
-    let mut hi = [limit; DIM_MAX];
-    hi[axis] = at;
-    let part = clip(alloc, a, &lo[..dim], &hi[..dim])?;
-    Ok(part)
-}
-
-/// What is above a plane.
-pub(crate) fn over(alloc: Global, a: Rows<'_>, axis: usize, at: i32) -> Result<Solid, NoMemory>
-    requires axis { axis < (vertices_of a).dim }
-    requires low { neg_ℤ (pos (limit (vertices_of a).dim)) <ℤ at }
-    requires high { at <ℤ pos (limit (vertices_of a).dim) }
-    ensures dim { IfOk result (λ s. s.dim ≡ (vertices_of a.entry).dim) }
-    ensures cells { IfOk result (λ s. cells_of s ≡ cells_over axis at (vertices_of a.entry)) }
-{
-    let dim = a.dim();
-    let limit = limit(dim);
-    let mut lo = [-limit; DIM_MAX];
-    let hi = [limit; DIM_MAX];
-    lo[axis] = at;
-    let part = clip(alloc, a, &lo[..dim], &hi[..dim])?;
-    Ok(part)
 }

@@ -13,7 +13,7 @@ use Rattle.evm_cells.proofs.Coords.{le_is, le_yes, lt_is, lt_yes, cell_is, point
 use Rattle.evm_cells.proofs.Universe.{point_from, cell_parts}
 use Rattle.evm_cells.proofs.Slices.{coord, all-coord}
 use Rattle.evm_rows.specs.Rows.{Vertices}
-use Rattle.evm_tiles.proofs.Planes.{long}
+use Rattle.evm_cutting.proofs.Planes.{long}
 use Rattle.evm_delta.specs.Hulls.{IsAround}
 use Rattle.evm_delta.proofs.HullLaws.{each_at, all_at, coord-take, is_hull, is_inside}
 use Rattle.evm_watch.specs.Parts.{IsLower, IsHigher, HoldsNear}

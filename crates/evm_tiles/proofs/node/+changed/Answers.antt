@@ -8,7 +8,7 @@ use Rattle.evm_cells.proofs.Layers.{filter_all}
 use Rattle.evm_cells.proofs.Universe.{cell_set-cells}
 use Rattle.evm_rows.specs.Rows.{Vertices, cells_of}
 use Rattle.evm_rows.proofs.BoxTests.{same32}
-use Rattle.evm_tiles.specs.Splits.{IsBetween}
+use Rattle.evm_cutting.specs.Cuts.{IsBetween}
 use Rattle.evm_tiles.specs.Trees.{node_cells, node_count, is_well}
 use Rattle.evm_tiles.proofs.Parts.{change_first, change_second, change_both, all-xor}
 use Rattle.evm_tiles.proofs.Trees.{halves, between_of, cut_cells, leaf_dim, leaf_cells, low_smaller, high_smaller, cell_set-node}

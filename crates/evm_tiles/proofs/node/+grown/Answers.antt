@@ -7,7 +7,7 @@ use Rattle.evm_cells.proofs.Layers.{filter_all}
 use Rattle.evm_cells.proofs.Universe.{cell_set-cells}
 use Rattle.evm_rows.specs.Rows.{cells_of}
 use Rattle.evm_rows.proofs.BoxTests.{same32}
-use Rattle.evm_tiles.specs.Splits.{IsSplit}
+use Rattle.evm_cutting.specs.Splits.{IsSplit}
 use Rattle.evm_tiles.specs.Trees.{node_cells}
 use Rattle.evm_tiles.proofs.node.+grown.Goals as goal
 

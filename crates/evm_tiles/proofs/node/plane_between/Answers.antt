@@ -7,7 +7,7 @@ use Rattle.evm_cells.proofs.Coords.{le_is}
 use Rattle.evm_rows.specs.Rows.{rows_of}
 use Rattle.evm_rows.proofs.BoxTests.{same32}
 use Rattle.evm_shapes.proofs.Missed.{under_last, over_first}
-use Rattle.evm_tiles.specs.Splits.{IsBetween}
+use Rattle.evm_cutting.specs.Cuts.{IsBetween}
 use Rattle.evm_tiles.proofs.node.plane_between.Goals as goal
 
 pub returns-then-at-limit : goal.returns-then-at-limit

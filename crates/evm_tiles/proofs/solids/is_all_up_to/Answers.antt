@@ -1,7 +1,7 @@
 use Rattle.std.proofs.Common.{arith}
 use Rattle.evm_rows.proofs.RowsLaws.{rows_of-none}
 use Rattle.evm_rows.proofs.BoxTests.{same32}
-use Rattle.evm_tiles.proofs.Planes.{none_left}
+use Rattle.evm_tiles.proofs.Showing.{none_left}
 use Rattle.evm_tiles.proofs.solids.is_all_up_to.Goals as goal
 
 pub returns : goal.returns

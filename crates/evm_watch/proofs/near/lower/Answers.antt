@@ -3,7 +3,7 @@ use Rattle.std.proofs.lemmas.Int.{ints}
 use Rattle.evm_cells.proofs.Coords.{point_is}
 use Rattle.evm_rows.proofs.BoxTests.{same32}
 use Rattle.evm_shapes.proofs.Shifted.{coord_32}
-use Rattle.evm_tiles.proofs.Planes.{ends_of}
+use Rattle.evm_cutting.proofs.Planes.{ends_of}
 use Rattle.evm_watch.proofs.near.lower.Goals as goal
 
 pub returns-then-x-limit : goal.returns-then-x-limit

@@ -7,7 +7,7 @@ use Rattle.evm_cells.specs.Shapes.{clip}
 use Rattle.evm_cells.proofs.Universe.{cell_set-cells}
 use Rattle.evm_rows.specs.Rows.{Vertices, cells_of}
 use Rattle.evm_rows.proofs.BoxTests.{same32}
-use Rattle.evm_tiles.proofs.Planes.{six}
+use Rattle.evm_cutting.proofs.Planes.{six}
 use Rattle.evm_tiles.proofs.Thin.{Thin, next_fits, thin_of, thin_box_at, thin_section_at}
 use Rattle.evm_tiles.proofs.tiles.Tiles.section.Goals as goal
 

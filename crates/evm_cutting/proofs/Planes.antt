@@ -1,4 +1,4 @@
--- The two sides of a plane, as what is inside a box, and as rows show them.
+-- The two sides of a plane, as what is inside a box.
 use Rattle.evm_shapes.proofs.Shifted.{coord_32}
 use Rattle.evm_cells.proofs.Insides.{cell_set-clip, has-clip_of}
 use Rattle.evm_cells.specs.Windows.{is_under, is_over}
@@ -15,6 +15,7 @@ use Rattle.evm_cells.proofs.Coords.{eq_is, eq_yes, le_yes, lt_yes, cell_is, poin
 use Rattle.evm_cells.proofs.Universe.{point_from, cell_parts, same_sets, ascending-filter, has-filter, member_passes}
 use Rattle.evm_cells.proofs.Slices.{coord}
 use Rattle.evm_rows.proofs.BoxTests.{same32}
+use Rattle.evm_cutting.specs.Cuts.{IsBetween}
 
 -- ---- lists of one number
 
@@ -209,6 +210,49 @@ frame_of n i at l within few low high e fits =
       below = omega (arith, int_facts, b, h, high);
     }
 
--- a test of rows, when none is left
-pub none_left : (t : List ℤ → Bool) (R A : List (List ℤ)) → R ≡ [] → list_all t R ≡ list_all t A → true ≡ list_all t A
-none_left t R A e h = sym (ap (list_all t) e) ∙ h
+-- the least and the largest coordinate, as the code has them
+abbrev pub largest : ℤ → ℤ
+largest l = to_z w32 (of_z w32 l)
+
+abbrev pub least : ℤ → ℤ
+least l = to_z w32 (of_z w32 (pos 0 -ℤ largest l))
+
+-- the boxes of the two sides, as the code makes them
+pub under_box_at : (n m i : ℕ) (at l : ℤ) → m ≡ n → n ≤ 6 → IsBetween n i at → l ≡ pos (limit m) → SFits w32 at
+    → is_box n (take m (six (least l))) (take m (slice_set (six (largest l)) i (to_z w32 (of_z w32 at)))) ≡ true
+under_box_at n m i at l e few b k fits =
+    let y : ℤ = largest l in
+    let x : ℤ = least l in
+    let h : ℤ = to_z w32 (of_z w32 at) in
+    ap (λ (j : ℕ). is_box n (take j (six x)) (take j (slice_set (six y) i h))) e
+    ∙ under_box n i x y h (six x) (six y) (frame_of n i at l b.axis few b.low b.high (k ∙ ap (λ (j : ℕ). pos (limit j)) e) fits)
+
+pub over_box_at : (n m i : ℕ) (at l : ℤ) → m ≡ n → n ≤ 6 → IsBetween n i at → l ≡ pos (limit m) → SFits w32 at
+    → is_box n (take m (slice_set (six (least l)) i (to_z w32 (of_z w32 at)))) (take m (six (largest l))) ≡ true
+over_box_at n m i at l e few b k fits =
+    let y : ℤ = largest l in
+    let x : ℤ = least l in
+    let h : ℤ = to_z w32 (of_z w32 at) in
+    ap (λ (j : ℕ). is_box n (take j (slice_set (six x) i h)) (take j (six y))) e
+    ∙ over_box n i x y h (six x) (six y) (frame_of n i at l b.axis few b.low b.high (k ∙ ap (λ (j : ℕ). pos (limit j)) e) fits)
+
+-- and what is inside them
+pub under_part : (n m i : ℕ) (at l : ℤ) (S : List (List ℤ)) → m ≡ n → n ≤ 6 → IsBetween n i at → l ≡ pos (limit m) → SFits w32 at → IsCellSet n S
+    → clip n (take m (six (least l))) (take m (slice_set (six (largest l)) i (to_z w32 (of_z w32 at)))) S ≡ filter (is_under i at) S
+under_part n m i at l S e few b k fits s =
+    let y : ℤ = largest l in
+    let x : ℤ = least l in
+    let h : ℤ = to_z w32 (of_z w32 at) in
+    ap (λ (j : ℕ). clip n (take j (six x)) (take j (slice_set (six y) i h)) S) e
+    ∙ under_clip n i x y h (six x) (six y) S (frame_of n i at l b.axis few b.low b.high (k ∙ ap (λ (j : ℕ). pos (limit j)) e) fits) s
+    ∙ ap (λ (z : ℤ). filter (is_under i z) S) (same32 at fits)
+
+pub over_part : (n m i : ℕ) (at l : ℤ) (S : List (List ℤ)) → m ≡ n → n ≤ 6 → IsBetween n i at → l ≡ pos (limit m) → SFits w32 at → IsCellSet n S
+    → clip n (take m (slice_set (six (least l)) i (to_z w32 (of_z w32 at)))) (take m (six (largest l))) S ≡ filter (is_over i at) S
+over_part n m i at l S e few b k fits s =
+    let y : ℤ = largest l in
+    let x : ℤ = least l in
+    let h : ℤ = to_z w32 (of_z w32 at) in
+    ap (λ (j : ℕ). clip n (take j (slice_set (six x) i h)) (take j (six y)) S) e
+    ∙ over_clip n i x y h (six x) (six y) S (frame_of n i at l b.axis few b.low b.high (k ∙ ap (λ (j : ℕ). pos (limit j)) e) fits) s
+    ∙ ap (λ (z : ℤ). filter (is_over i z) S) (same32 at fits)

@@ -1,6 +1,6 @@
 use Rattle.std.proofs.Common.{◌-◌, ◌<◌, length}
 use Rattle.evm_rows.specs.Rows.{rows_of}
-use Rattle.evm_tiles.proofs.node.middle.Given as goal
+use Rattle.evm_cutting.proofs.halves.middle.Given as goal
 
 abbrev pub invariant-loop-row : goal.invariant-loop-row
 invariant-loop-row l = 0 < l.step

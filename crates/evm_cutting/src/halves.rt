@@ -1,0 +1,95 @@
+//! A solid, cut in two by a plane.
+
+ghost use Rattle.std.specs.Prelude.{◌≡◌, ◌<◌, IfOk, IfSome};
+ghost use Rattle.evm_rows.specs.View.{vertices_of};
+ghost use Rattle.evm_cutting.specs.Cuts.{IsBetween};
+ghost use Rattle.evm_cutting.specs.Splits.{IsSplit};
+
+use crate::sides::{over, under};
+use evm_rows::{NoMemory, Rows, Solid, limit};
+use std::alloc::Global;
+
+/// A middle coordinate on an axis, counted from 0, above the least one and strictly within the limits of the dimension; none where
+/// there is no such coordinate among those that were looked at. Takes memory for at most 1024 of them.
+pub(crate) fn middle(alloc: Global, a: Rows<'_>, axis: usize) -> Result<Option<i32>, NoMemory>
+    requires { axis < (vertices_of a).dim }
+    ensures { IfOk result (λ o. IfSome o (λ at. IsBetween (vertices_of a.entry).dim axis at)) }
+{
+    let limit = limit(a.dim());
+    let step = a.len() / 1024 + 1;
+    let mut heights = Vec::with_capacity(alloc, 1024)?;
+    let mut row = 0;
+    while row < a.len() {
+        heights.push(a.coord(row, axis + 1))?;
+        row = row.saturating_add(step);
+    }
+    heights.sort_unstable();
+    let Some(least) = heights.first() else {
+        return Ok(None);
+    };
+    let mut at = heights[heights.len() / 2];
+    for height in heights.as_slice() {
+        if at == *least {
+            at = *height;
+        }
+    }
+    if -limit < at && at < limit && *least < at {
+        Ok(Some(at))
+    } else {
+        Ok(None)
+    }
+}
+
+/// A solid, cut in two by a plane across an axis.
+#[derive(Drop)]
+pub struct Split {
+    /// The axis, counted from 0.
+    pub axis: usize,
+    /// The height of the plane on it.
+    pub at: i32,
+    /// What is below the plane.
+    pub low: Solid,
+    /// What is above it.
+    pub high: Solid,
+}
+
+/// The two sides of a plane, if each is clearly smaller than the whole.
+fn split_at(alloc: Global, solid: &Solid, axis: usize, at: i32) -> Result<Option<Split>, NoMemory>
+    requires { IsBetween solid.now.dim axis at }
+    ensures { IfOk result (λ o. IfSome o (IsSplit solid.now)) }
+{
+    let most = solid.len() - solid.len() / 8;
+    let low = under(alloc, solid.rows(), axis, at)?;
+    let high = over(alloc, solid.rows(), axis, at)?;
+    if low.len() <= most && high.len() <= most {
+        Ok(Some(Split {
+            axis,
+            at,
+            low,
+            high,
+        }))
+    } else {
+        Ok(None)
+    }
+}
+
+/// The two sides of a plane across some axis, the first that serves from `first` on, counted from 0 and past the last axis again from
+/// the first: a plane serves that leaves to each side at most seven of eight rows. None where there is no such plane among those that
+/// were looked at. Takes memory for the two sides and for at most 1024 coordinates.
+pub fn halved(alloc: Global, solid: &Solid, first: usize) -> Result<Option<Split>, NoMemory>
+    ensures { IfOk result (λ o. IfSome o (IsSplit solid.now)) }
+{
+    solid.facts();
+    let dim = solid.dim();
+    for turn in 0..dim {
+        let axis = (first % dim + turn) % dim;
+        let plane = middle(alloc, solid.rows(), axis)?;
+        if let Some(at) = plane {
+            let made = split_at(alloc, solid, axis, at)?;
+            if made.is_some() {
+                return Ok(made);
+            }
+        }
+    }
+    Ok(None)
+}

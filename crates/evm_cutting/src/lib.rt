@@ -1,0 +1,11 @@
+//! Cutting of space: the two sides of a plane across an axis, and a solid by its parts on them.
+//!
+//! A solid is the exclusive or of what it has on the two sides of a plane, and what is made of solids cell by cell is made on each
+//! side alone. (This project's own.)
+#![tactic(auto)]
+
+mod halves;
+mod sides;
+
+pub use halves::{Split, halved};
+pub use sides::{over, under};
