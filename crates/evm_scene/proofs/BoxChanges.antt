@@ -11,8 +11,8 @@ use Rattle.evm_cells.proofs.Combine.{cell_set-xor, has-xor_cells}
 use Rattle.evm_cells.proofs.Booleans.{has-combine_of, cell_sets}
 use Rattle.evm_rows.specs.Rows.{Vertices, cells_of}
 use Rattle.evm_model.specs.Figures.{Figure, box_fits, box_of, box_at, or_of, and_of, sub_of, xor_of, clip_of}
-use Rattle.evm_scene.specs.Tables.{figure_of}
-use Rattle.evm_scene.proofs.Figures.{figure_with}
+use Rattle.evm_formulas.specs.Stated.{figure_of}
+use Rattle.evm_formulas.proofs.Figures.{figure_with}
 
 added_at : (a b : Bool) → xor a (xor b (a && b)) ≡ (a || b)
 unfolding xor

@@ -12,12 +12,15 @@ use Rattle.evm_model.proofs.Names.{same_name, name_itself, name_sym}
 use Rattle.evm_model.proofs.Counts.{differ_distinct, changed_count}
 use Rattle.evm_model.proofs.FigureLaws.{same_itself}
 use Rattle.evm_scene.specs.declared.node.Node.{Node}
-use Rattle.evm_scene.specs.declared.node.Change.{Change}
-use Rattle.evm_scene.specs.Tables.{Table, figure_of, node_at, node_figure, kept, scene_of}
+use Rattle.evm_formulas.specs.declared.changes.Change.{Change}
+use Rattle.evm_formulas.specs.Stated.{figure_of}
+use Rattle.evm_scene.specs.Tables.{Table, node_at, node_figure, kept, scene_of}
 use Rattle.evm_scene.specs.Orders.{IsKept}
-use Rattle.evm_scene.specs.Changes.{Pending, change_at, after_of, moved, IsChange, MovesNode, IsCarried, IsCount}
+use Rattle.evm_formulas.specs.Changes.{after_of, IsChange}
+use Rattle.evm_scene.specs.Changes.{Pending, change_at, moved, MovesNode, IsCarried, IsCount}
 use Rattle.evm_scene.proofs.Views.{stands_at, kept_is_value}
-use Rattle.evm_scene.proofs.Figures.{node_set, still_change, changed_figure}
+use Rattle.evm_formulas.proofs.Figures.{still_change, changed_figure}
+use Rattle.evm_scene.proofs.Nodes.{node_set}
 use Rattle.evm_scene.proofs.Wells.{entries_apart}
 
 -- a change is noted under a name exactly where the name is a key

@@ -20,13 +20,14 @@ use Rattle.evm_model.specs.Orders.{is_among}
 use Rattle.evm_model.specs.Scene.{Scene, Made, dim_of, is_dim, is_axis, is_range, operands, formula_dim, formula_fits, formula_in_range, what_is_sound}
 use Rattle.evm_model.proofs.Names.{by_test, not_true, same_name, among_here, among_later}
 use Rattle.evm_model.proofs.WellScenes.{sound_made}
-use Rattle.evm_scene.specs.declared.operations.Operation.{Operation}
-use Rattle.evm_scene.specs.declared.operations.Operation.TheVariants as does
+use Rattle.evm_formulas.specs.declared.operations.Operation.{Operation}
+use Rattle.evm_formulas.specs.declared.operations.Operation.TheVariants as does
 use Rattle.evm_scene.specs.declared.node.Node.{Node}
-use Rattle.evm_scene.specs.Tables.{Table, node_at, node_dim, NodeSized, MadeSized, dim_at, operand_dim, FormulaSized, scene_of}
-use Rattle.evm_scene.specs.Operations.{operation_of}
+use Rattle.evm_formulas.specs.Stated.{operand_dim}
+use Rattle.evm_scene.specs.Tables.{Table, node_at, node_dim, NodeSized, MadeSized, dim_at, FormulaSized, scene_of}
+use Rattle.evm_formulas.specs.Operations.{operation_of}
 use Rattle.evm_scene.proofs.Views.{dim_is}
-use Rattle.evm_scene.proofs.Stated.{dim_low, dim_high}
+use Rattle.evm_formulas.proofs.Stated.{dim_low, dim_high}
 
 -- ---- axes
 

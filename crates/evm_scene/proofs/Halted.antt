@@ -15,10 +15,12 @@ use Rattle.evm_model.proofs.Levels.{along}
 use Rattle.evm_model.proofs.WellScenes.{well_order, well_value}
 use Rattle.evm_model.proofs.WellEdits.{well_figure}
 use Rattle.evm_scene.specs.declared.node.Node.{Node}
-use Rattle.evm_scene.specs.declared.node.Change.{Change}
-use Rattle.evm_scene.specs.Tables.{Table, figure_of, node_at, reads_at, made_stays, node_stays, node_figure, node_dim, dim_at, kept, NodeSized, what_of, entry_view, entries_of, scene_of}
+use Rattle.evm_formulas.specs.declared.changes.Change.{Change}
+use Rattle.evm_formulas.specs.Stated.{figure_of}
+use Rattle.evm_scene.specs.Tables.{Table, node_at, reads_at, made_stays, node_stays, node_figure, node_dim, dim_at, kept, NodeSized, what_of, entry_view, entries_of, scene_of}
 use Rattle.evm_scene.specs.Orders.{IsKept}
-use Rattle.evm_scene.specs.Changes.{Pending, change_at, after_of, moved, IsChange, IsHalted}
+use Rattle.evm_formulas.specs.Changes.{after_of, IsChange}
+use Rattle.evm_scene.specs.Changes.{Pending, change_at, moved, IsHalted}
 use Rattle.evm_scene.proofs.Views.{entry_at, dim_is, operands_at, stands_at, value_at, value_same, stays_same}
 
 -- whether an entry that may be there moves no cell out of the limits

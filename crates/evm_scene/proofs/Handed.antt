@@ -11,7 +11,8 @@ use Rattle.evm_model.specs.Scene.{Slot, value, handed, slot_is_free, attached, d
 use Rattle.evm_model.proofs.Names.{by_or, or_left, or_right, same_name}
 use Rattle.evm_watch.specs.Slots.{Seen, Free, Watches, Gone, seen_watches, seen_reading, seen_is_free, seen_attached}
 use Rattle.evm_scene.specs.declared.edit.AttachError.TheVariants as errors
-use Rattle.evm_scene.specs.Tables.{Table, figure_of, node_at, kept, entries_of, scene_of}
+use Rattle.evm_formulas.specs.Stated.{figure_of}
+use Rattle.evm_scene.specs.Tables.{Table, node_at, kept, entries_of, scene_of}
 use Rattle.evm_scene.specs.Watched.{slot_of, slots_of, Follows, AllFollow, IsWatched, watched_scene, Attaches}
 use Rattle.evm_scene.proofs.Views.{stands_at}
 use Rattle.evm_scene.proofs.Slotted.{slot_is, reads_value}

@@ -9,10 +9,12 @@ use Rattle.evm_model.specs.Scene.{Made, operands, formula_value, formula_stays, 
 use Rattle.evm_model.specs.Edits.{closes_cycle, changed_names}
 use Rattle.evm_model.proofs.Names.{same_name, name_itself, name_sym, any_among}
 use Rattle.evm_scene.specs.declared.node.Node.{Node}
-use Rattle.evm_scene.specs.declared.node.Change.{Change}
-use Rattle.evm_scene.specs.Tables.{Table, figure_of, node_at, reads_at, kept, node_dim, dim_at, is_made, FormulaSized, with_made, entries_of, scene_of}
+use Rattle.evm_formulas.specs.declared.changes.Change.{Change}
+use Rattle.evm_formulas.specs.Stated.{figure_of}
+use Rattle.evm_scene.specs.Tables.{Table, node_at, reads_at, kept, node_dim, dim_at, is_made, FormulaSized, with_made, entries_of, scene_of}
 use Rattle.evm_scene.specs.Orders.{IsKept, meets, Parted}
-use Rattle.evm_scene.specs.Changes.{Pending, change_at, after_of, moved, moved_node, put_all, IsChange, IsCount, MovesNode, IsRedefined, IsInstalled}
+use Rattle.evm_formulas.specs.Changes.{after_of, IsChange}
+use Rattle.evm_scene.specs.Changes.{Pending, change_at, moved, moved_node, put_all, IsCount, MovesNode, IsRedefined, IsInstalled}
 use Rattle.evm_scene.proofs.Puts.{node_put_all, length_put_all, moved_none}
 use Rattle.evm_scene.proofs.Mades.{node_made, length_made}
 use Rattle.evm_scene.proofs.Views.{view_put_all, view_put_formula, reached}

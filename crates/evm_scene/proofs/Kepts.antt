@@ -5,10 +5,12 @@ use Rattle.evm_model.specs.Figures.{Figure}
 use Rattle.evm_model.specs.Scene.{formula_value}
 use Rattle.evm_model.proofs.Names.{same_name}
 use Rattle.evm_scene.specs.declared.node.Node.{Node}
-use Rattle.evm_scene.specs.declared.node.Change.{Change}
-use Rattle.evm_scene.specs.Tables.{Table, figure_of, node_at, node_reads, reads_at, made_value, node_value, made_stays, node_stays, node_figure, kept, node_dim, dim_at, NodeSized}
+use Rattle.evm_formulas.specs.declared.changes.Change.{Change}
+use Rattle.evm_formulas.specs.Stated.{figure_of}
+use Rattle.evm_scene.specs.Tables.{Table, node_at, node_reads, reads_at, made_value, node_value, made_stays, node_stays, node_figure, kept, node_dim, dim_at, NodeSized}
 use Rattle.evm_scene.specs.Orders.{IsKept}
-use Rattle.evm_scene.specs.Changes.{Pending, change_at, after_of, moved, moved_node, IsChange, IsCarried}
+use Rattle.evm_formulas.specs.Changes.{after_of, IsChange}
+use Rattle.evm_scene.specs.Changes.{Pending, change_at, moved, moved_node, IsCarried}
 use Rattle.evm_scene.proofs.Views.{value_same, stays_same, operand_stands, ordered_same, node_formula}
 
 pub reads_moved : (n : Option Node) (c : Option Change) → node_reads (moved_node n c) ≡ node_reads n

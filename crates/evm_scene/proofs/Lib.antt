@@ -2,7 +2,7 @@ pub mod Views
 pub mod Splits
 pub mod Parts
 pub mod NewLast
-pub mod Figures
+pub mod Nodes
 pub mod Wells
 pub mod Unread
 pub mod TakenOut
@@ -22,12 +22,10 @@ pub mod Watching
 pub mod Slotted
 pub mod Handed
 pub mod Prepared
-pub mod Corners
 pub mod BoxChanges
 pub mod Causes
 pub mod Planned
 pub mod OtherFigures
-pub mod ShapeValues
 pub mod Stated
 pub mod FormulaLaws
 pub mod Reformed

@@ -6,7 +6,8 @@ use Rattle.evm_model.specs.Scene.{operands}
 use Rattle.evm_model.proofs.Names.{same_name, name_itself, name_sym, or_right, or-false, among-append}
 use Rattle.evm_model.proofs.Orders.{ordered_push}
 use Rattle.evm_scene.specs.declared.node.Node.{Node}
-use Rattle.evm_scene.specs.Tables.{Table, figure_of, node_at, made_reads, node_reads, reads_at, node_value, node_stays, node_figure, kept, node_dim, dim_at, FormulaSized, MadeSized, NodeSized}
+use Rattle.evm_formulas.specs.Stated.{figure_of}
+use Rattle.evm_scene.specs.Tables.{Table, node_at, made_reads, node_reads, reads_at, node_value, node_stays, node_figure, kept, node_dim, dim_at, FormulaSized, MadeSized, NodeSized}
 use Rattle.evm_scene.specs.Orders.{IsKept}
 use Rattle.evm_scene.proofs.Views.{value_same, stays_same, operand_stands}
 use Rattle.evm_scene.proofs.Parts.{ordered_on}

@@ -6,7 +6,8 @@ use Rattle.evm_rows.specs.Rows.{Vertices}
 use Rattle.evm_model.specs.Figures.{Figure, nothing}
 use Rattle.evm_model.specs.Scene.{Entry, Given, is_dim, with_new, IsWell}
 use Rattle.evm_model.specs.Edits as model
-use Rattle.evm_scene.specs.Tables.{Table, figure_of, node_at, entry_view, entries_of, scene_of}
+use Rattle.evm_formulas.specs.Stated.{figure_of}
+use Rattle.evm_scene.specs.Tables.{Table, node_at, entry_view, entries_of, scene_of}
 use Rattle.evm_scene.proofs.Views.{stands_at}
 use Rattle.evm_scene.proofs.Unread.{new_changes_none}
 

@@ -4,9 +4,10 @@ use Rattle.evm_rows.specs.Rows.{Vertices}
 use Rattle.evm_model.specs.Scene.{Scene, is_input, dim_of, with_figure}
 use Rattle.evm_model.specs.Edits.{Code, Replace, Name, Kind, Dim, first_cause, value_causes, refusal, after}
 use Rattle.evm_scene.specs.declared.node.Node.{Node}
-use Rattle.evm_scene.specs.declared.node.Change.{Change}
-use Rattle.evm_scene.specs.Tables.{Table, figure_of, node_at, node_figure, is_made, scene_of}
-use Rattle.evm_scene.specs.Changes.{IsChange}
+use Rattle.evm_formulas.specs.declared.changes.Change.{Change}
+use Rattle.evm_formulas.specs.Stated.{figure_of}
+use Rattle.evm_scene.specs.Tables.{Table, node_at, node_figure, is_made, scene_of}
+use Rattle.evm_formulas.specs.Changes.{IsChange}
 use Rattle.evm_scene.specs.InputEdits.{IsPlanned}
 use Rattle.evm_scene.proofs.Views.{stands_at}
 use Rattle.evm_scene.proofs.Planned.{there, made_here, wide}

@@ -5,10 +5,12 @@ use Rattle.evm_cells.specs.Vertices.{cells}
 use Rattle.evm_model.specs.Scene.{Entry, Given, with_entry, with_figure}
 use Rattle.evm_model.proofs.Names.{same_name, name_itself, name_sym}
 use Rattle.evm_scene.specs.declared.node.Node.{Node}
-use Rattle.evm_scene.specs.declared.node.Change.{Change}
-use Rattle.evm_scene.specs.Tables.{Table, figure_of, node_at, put_solid, with_solid, is_made, node_dim, dim_at, kept, entries_of, scene_of, node_figure, NodeSized}
+use Rattle.evm_formulas.specs.declared.changes.Change.{Change}
+use Rattle.evm_formulas.specs.Stated.{figure_of}
+use Rattle.evm_scene.specs.Tables.{Table, node_at, put_solid, with_solid, is_made, node_dim, dim_at, kept, entries_of, scene_of, node_figure, NodeSized}
 use Rattle.evm_scene.specs.Orders.{IsKept}
-use Rattle.evm_scene.specs.Changes.{Pending, change_at, put_all, moved, moved_node, MovesNode, IsChange, IsCarried}
+use Rattle.evm_formulas.specs.Changes.{IsChange}
+use Rattle.evm_scene.specs.Changes.{Pending, change_at, put_all, moved, moved_node, MovesNode, IsCarried}
 use Rattle.evm_scene.proofs.Puts.{node_put, node_put_all, length_put, length_put_all, moved_again, moved_none}
 use Rattle.evm_scene.proofs.Kepts.{kept_again, some_moved, solid_moved}
 use Rattle.evm_scene.proofs.Views.{node_formula}

@@ -4,10 +4,12 @@ use Rattle.std.specs.List.{IsDistinct}
 use Rattle.std.specs.Map.{keys_of}
 use Rattle.evm_model.specs.Scene.{with_figure, all_stay}
 use Rattle.evm_model.specs.Edits.{changed_names}
-use Rattle.evm_scene.specs.declared.node.Change.{Change}
-use Rattle.evm_scene.specs.Tables.{Table, figure_of, node_at, put_solid, is_made, kept, scene_of}
+use Rattle.evm_formulas.specs.declared.changes.Change.{Change}
+use Rattle.evm_formulas.specs.Stated.{figure_of}
+use Rattle.evm_scene.specs.Tables.{Table, node_at, put_solid, is_made, kept, scene_of}
 use Rattle.evm_scene.specs.Orders.{IsKept}
-use Rattle.evm_scene.specs.Changes.{Pending, put_all, moved, IsChange, IsCarried, IsCount, IsPlaced}
+use Rattle.evm_formulas.specs.Changes.{IsChange}
+use Rattle.evm_scene.specs.Changes.{Pending, put_all, moved, IsCarried, IsCount, IsPlaced}
 use Rattle.evm_scene.proofs.OwnLast.{input_kept, input_scene, input_stands, input_new, own_change}
 use Rattle.evm_scene.proofs.Counted.{count_carried}
 use Rattle.evm_scene.proofs.Wells.{input_left}

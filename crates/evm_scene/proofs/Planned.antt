@@ -7,16 +7,17 @@ use Rattle.evm_model.specs.Figures.{Figure, box_fits, low_of, high_of, box_at}
 use Rattle.evm_model.specs.Scene.{Scene, stands, is_input, dim_of, value, with_figure, all_stay}
 use Rattle.evm_model.specs.Edits.{Edit, Code, Name, Kind, Dim, Range, first_cause, box_causes, value_causes, refusal, after, changed, changed_names, with_box}
 use Rattle.evm_scene.specs.declared.node.Node.{Node}
-use Rattle.evm_scene.specs.declared.node.Change.{Change}
+use Rattle.evm_formulas.specs.declared.changes.Change.{Change}
 use Rattle.evm_scene.specs.declared.boxes.BoxEdit.{BoxEdit}
 use Rattle.evm_scene.specs.declared.boxes.BoxEdit.TheVariants.{Toggle, Add, Cut}
 use Rattle.evm_scene.specs.declared.edit.Refusal.{Refusal}
 use Rattle.evm_scene.specs.declared.edit.Refusal.TheVariants as why
-use Rattle.evm_scene.specs.Tables.{Table, figure_of, node_at, node_figure, node_dim, is_made, kept, scene_of}
-use Rattle.evm_scene.specs.Changes.{IsChange}
+use Rattle.evm_formulas.specs.Stated.{figure_of}
+use Rattle.evm_scene.specs.Tables.{Table, node_at, node_figure, node_dim, is_made, kept, scene_of}
+use Rattle.evm_formulas.specs.Changes.{IsChange}
 use Rattle.evm_scene.specs.Applied.{Applies}
 use Rattle.evm_scene.specs.Refused.{of_delta_error}
-use Rattle.evm_scene.specs.Combined.{MakesBox}
+use Rattle.evm_scene.specs.Boxes.{MakesBox}
 use Rattle.evm_scene.specs.InputEdits.{figure_by, edit_by, IsRefused, IsPlanned}
 use Rattle.evm_scene.proofs.Views.{stands_at, dim_is, input_at, is_given}
 

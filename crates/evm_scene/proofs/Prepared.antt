@@ -11,9 +11,11 @@ use Rattle.evm_model.proofs.Names.{or_left, or_right, same_name, name_itself, na
 use Rattle.evm_model.proofs.Counts.{AllDiffer, differ_distinct}
 use Rattle.evm_watch.specs.Slots.{Seen, Free, Watches, Gone, seen_watches, SeenReads, EachReads, seen_prepared, seen_abandoned, IsMoved}
 use Rattle.evm_scene.specs.declared.node.Node.{Node}
-use Rattle.evm_scene.specs.declared.node.Change.{Change}
-use Rattle.evm_scene.specs.Tables.{Table, figure_of, node_at, kept}
-use Rattle.evm_scene.specs.Changes.{Pending, change_at, IsChange}
+use Rattle.evm_formulas.specs.declared.changes.Change.{Change}
+use Rattle.evm_formulas.specs.Stated.{figure_of}
+use Rattle.evm_scene.specs.Tables.{Table, node_at, kept}
+use Rattle.evm_formulas.specs.Changes.{IsChange}
+use Rattle.evm_scene.specs.Changes.{Pending, change_at}
 use Rattle.evm_scene.specs.Watched.{Follows, AllFollow, IsWatched, or_after, prepared_by}
 
 same_some : {A : Type 0} (a b : A) → Some a ≡ Some b → a ≡ b

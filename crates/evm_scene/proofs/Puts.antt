@@ -6,7 +6,7 @@ use Rattle.std.proofs.lemmas.Bool.{both_ways}
 use Rattle.evm_rows.specs.Rows.{Vertices}
 use Rattle.evm_model.proofs.Names.{same_name, equal_names, different_names, name_sym}
 use Rattle.evm_scene.specs.declared.node.Node.{Node}
-use Rattle.evm_scene.specs.declared.node.Change.{Change}
+use Rattle.evm_formulas.specs.declared.changes.Change.{Change}
 use Rattle.evm_scene.specs.Tables.{Table, node_at, put_solid, with_solid}
 use Rattle.evm_scene.specs.Changes.{Pending, change_at, put_all, moved_node}
 

@@ -7,10 +7,12 @@ use Rattle.evm_model.specs.Scene.{operands, formula_value, formula_stays, is_dim
 use Rattle.evm_model.proofs.Names.{same_name}
 use Rattle.evm_model.proofs.Levels.{formula_same, formula_stays_same}
 use Rattle.evm_scene.specs.declared.node.Node.{Node}
-use Rattle.evm_scene.specs.declared.node.Change.{Change}
-use Rattle.evm_scene.specs.Tables.{Table, figure_of, node_at, node_reads, made_reads, reads_at, node_value, made_stays, node_stays, node_figure, kept, node_dim, dim_at, FormulaSized, MadeSized, NodeSized}
+use Rattle.evm_formulas.specs.declared.changes.Change.{Change}
+use Rattle.evm_formulas.specs.Stated.{figure_of}
+use Rattle.evm_scene.specs.Tables.{Table, node_at, node_reads, made_reads, reads_at, node_value, made_stays, node_stays, node_figure, kept, node_dim, dim_at, FormulaSized, MadeSized, NodeSized}
 use Rattle.evm_scene.specs.Orders.{IsKept, Parted}
-use Rattle.evm_scene.specs.Changes.{Pending, change_at, after_of, moved, moved_node, IsChange, IsCarried}
+use Rattle.evm_formulas.specs.Changes.{after_of, IsChange}
+use Rattle.evm_scene.specs.Changes.{Pending, change_at, moved, moved_node, IsCarried}
 use Rattle.evm_scene.proofs.Views.{value_same, stays_same, operand_stands, node_formula}
 use Rattle.evm_scene.proofs.Kepts.{stays_moved, reads_moved, dim_moved, some_moved, solid_moved, sized_moved, fixed_moved, value_formula}
 use Rattle.evm_scene.proofs.Parts.{new_order, new_whole, new_size, reads_front}

@@ -17,7 +17,8 @@ use Rattle.evm_model.proofs.Lookups.{differ_with}
 use Rattle.evm_scene.specs.declared.edit.Refusal.{Refusal}
 use Rattle.evm_scene.specs.declared.edit.Refusal.TheVariants.{Name, Taken, Kind, Used, Cycle, Dim, Range, NoMemory}
 use Rattle.evm_scene.specs.declared.node.Node.{Node}
-use Rattle.evm_scene.specs.Tables.{Table, figure_of, node_at, reads_at, kept, dim_at, is_made, entries_of, scene_of}
+use Rattle.evm_formulas.specs.Stated.{figure_of}
+use Rattle.evm_scene.specs.Tables.{Table, node_at, reads_at, kept, dim_at, is_made, entries_of, scene_of}
 use Rattle.evm_scene.specs.Orders.{IsKept, meets, Parted}
 use Rattle.evm_scene.specs.Changes.{Pending, moved, IsRedefined, IsInstalled}
 use Rattle.evm_scene.specs.Applied.{Applies}

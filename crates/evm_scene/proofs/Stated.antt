@@ -1,25 +1,8 @@
--- The numbers that formulas state, and the dimensions that they ask for.
-use Rattle.std.proofs.Common.{◌≡◌, ℕ, ◌+◌, ◌≤◌, true, List, Option, None, Some, is_some, true≢false, lit≤, ℤ, pos, int_le, sym, add-one, arith}
-use Rattle.std.proofs.lemmas.Int.{ints as int_facts}
-use Rattle.evm_cells.specs.Limits.{is_cell_coord, is_point_coord}
-use Rattle.evm_model.specs.Scene.{is_dim}
+-- The dimensions that nodes have.
+use Rattle.std.proofs.Common.{◌≡◌, ℕ, ◌≤◌, true, List, Option, None, Some, is_some, true≢false, lit≤, sym}
 use Rattle.evm_scene.specs.declared.node.Node.{Node}
 use Rattle.evm_scene.specs.Tables.{node_dim, NodeSized}
-use Rattle.evm_cells.proofs.Xor.{and_first, and_second}
-use Rattle.evm_cells.proofs.Coords.{le_is, cell_is, cell_coord-falls, point_yes}
-
--- a coordinate of cells is one of points of the dimension below
-pub cell_point : (n : ℕ) (x : ℤ) → is_cell_coord (n + 1) x ≡ true → is_point_coord n x ≡ true
-cell_point n x h =
-    let (low, high) = cell_is n x (cell_coord-falls n x (rw add-one at h)) in
-    point_yes n x low (omega (arith, int_facts, high))
-
--- dimensions of named solids
-pub dim_low : (n : ℕ) → is_dim (pos n) ≡ true → 2 ≤ n
-dim_low n h = let low = le_is (pos 2) (pos n) (and_first (int_le (pos 2) (pos n)) (int_le (pos n) (pos 6)) h) in omega (arith, int_facts, low)
-
-pub dim_high : (n : ℕ) → is_dim (pos n) ≡ true → n ≤ 6
-dim_high n h = let high = le_is (pos n) (pos 6) (and_second (int_le (pos 2) (pos n)) (int_le (pos n) (pos 6)) h) in omega (arith, int_facts, high)
+use Rattle.evm_formulas.proofs.Stated.{dim_low, dim_high}
 
 pub node_low : (n : Option Node) (dims : List ℕ → ℕ) → NodeSized n dims → is_some n ≡ true → 2 ≤ node_dim n
 node_low None dims h s = absurd (true≢false (sym s))

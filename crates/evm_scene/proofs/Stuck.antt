@@ -11,10 +11,11 @@ use Rattle.evm_model.proofs.Levels.{formula_same, formula_stays_same}
 use Rattle.evm_model.proofs.Stays.{before_both, at_formula, value_stays}
 use Rattle.evm_model.proofs.WellScenes.{well_value, sound_made}
 use Rattle.evm_model.proofs.WellEdits.{well_formula}
-use Rattle.evm_scene.specs.declared.node.Change.{Change}
+use Rattle.evm_formulas.specs.declared.changes.Change.{Change}
 use Rattle.evm_scene.specs.Tables.{Table, node_at, kept, entries_of, scene_of}
 use Rattle.evm_scene.specs.Orders.{IsKept}
-use Rattle.evm_scene.specs.Changes.{after_of, moved, IsStuck}
+use Rattle.evm_formulas.specs.Changes.{after_of}
+use Rattle.evm_scene.specs.Changes.{moved, IsStuck}
 use Rattle.evm_scene.proofs.Views.{stands_at, kept_is_value}
 use Rattle.evm_scene.proofs.Halted.{entry_stays, all_at, never_well}
 

@@ -10,7 +10,8 @@ use Rattle.evm_model.specs.Scene.{Entry, What, Given, Made, entry_of, stands, di
 use Rattle.evm_model.proofs.Names.{same_name, name_itself}
 use Rattle.evm_model.proofs.Levels.{value_unique, reach_found, operands_stand, formula_same, formula_stays_same}
 use Rattle.evm_scene.specs.declared.node.Node.{Node}
-use Rattle.evm_scene.specs.Tables.{Table, figure_of, node_at, made_reads, node_reads, reads_at, made_value, node_value, made_stays, node_stays, kept, node_dim, dim_at, is_made, NodeSized, put_solid, with_solid, put_made, with_made, what_of, entry_view, entries_of, scene_of}
+use Rattle.evm_formulas.specs.Stated.{figure_of}
+use Rattle.evm_scene.specs.Tables.{Table, node_at, made_reads, node_reads, reads_at, made_value, node_value, made_stays, node_stays, kept, node_dim, dim_at, is_made, NodeSized, put_solid, with_solid, put_made, with_made, what_of, entry_view, entries_of, scene_of}
 use Rattle.evm_scene.specs.Changes.{Pending, change_at, put_all}
 use Rattle.evm_scene.specs.Orders.{IsKept, meets}
 use Rattle.evm_scene.specs.Shown.{name_of_entry, what_formula, entry_formula}

@@ -6,9 +6,10 @@ use Rattle.evm_model.specs.Orders.{is_among, AllSeen, Ordered}
 use Rattle.evm_model.proofs.Names.{same_name, equal_names, different_names, name_itself, or_none, among_here, among_later, apart, apart_back}
 use Rattle.evm_model.proofs.Levels.{ordered_reads}
 use Rattle.evm_scene.specs.declared.node.Node.{Node}
-use Rattle.evm_scene.specs.declared.node.Change.{Change}
+use Rattle.evm_formulas.specs.declared.changes.Change.{Change}
 use Rattle.evm_scene.specs.Tables.{Table, node_at, reads_at, node_value, node_stays, node_figure, kept}
-use Rattle.evm_scene.specs.Changes.{Pending, change_at, moved, after_of, IsChange, MovesNode, IsCarried, IsCarriedTo, IsHalted}
+use Rattle.evm_formulas.specs.Changes.{after_of, IsChange}
+use Rattle.evm_scene.specs.Changes.{Pending, change_at, moved, MovesNode, IsCarried, IsCarriedTo, IsHalted}
 use Rattle.evm_scene.proofs.Views.{value_same, stays_same}
 
 pub record Walk (t : Table) (front : List (List ℕ)) (name : List ℕ) (old p : Pending) (rest : List (List ℕ)) : Type 0 where

@@ -7,9 +7,10 @@ use Rattle.evm_model.proofs.Names.{or_left, or_right, same_name, name_itself}
 use Rattle.evm_model.proofs.SlotLaws.{some_watches}
 use Rattle.evm_watch.specs.Slots.{Seen, Free, Watches, Gone, seen_watches, or_pending, seen_committed}
 use Rattle.evm_scene.specs.declared.node.Node.{Node}
-use Rattle.evm_scene.specs.declared.node.Change.{Change}
+use Rattle.evm_formulas.specs.declared.changes.Change.{Change}
 use Rattle.evm_scene.specs.Tables.{Table, node_at, node_figure, kept}
-use Rattle.evm_scene.specs.Changes.{Pending, change_at, after_of, moved}
+use Rattle.evm_formulas.specs.Changes.{after_of}
+use Rattle.evm_scene.specs.Changes.{Pending, change_at, moved}
 use Rattle.evm_scene.specs.Watched.{slot_of, slots_of, Follows, AllFollow, IsWatched, StaysWatched, or_after, prepared_by}
 
 same_some : {A : Type 0} (a b : A) → Some a ≡ Some b → a ≡ b

@@ -7,7 +7,7 @@ use Rattle.evm_scene.specs.declared.edit.Edit.TheVariants.{Input, Toggle, Add, C
 use Rattle.evm_scene.specs.declared.edit.Refusal.{Refusal}
 use Rattle.evm_scene.specs.declared.edit.Refusal.TheVariants.{Name, Taken, Kind, Used, Cycle, Dim, Range, NoMemory}
 use Rattle.evm_scene.specs.declared.edit.Changed.{Changed}
-use Rattle.evm_scene.specs.Tables.{figure_of}
+use Rattle.evm_formulas.specs.Stated.{figure_of}
 
 -- the edit, as the model words it
 abbrev pub edit_view : Edit → model.Edit

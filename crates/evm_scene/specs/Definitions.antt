@@ -8,7 +8,8 @@ use Rattle.evm_model.specs.Edits.{closes_cycle}
 use Rattle.evm_scene.specs.declared.edit.Refusal.{Refusal}
 use Rattle.evm_scene.specs.declared.edit.Refusal.TheVariants.{Name, Taken, Kind, Used, Cycle, Dim, Range, NoMemory}
 use Rattle.evm_scene.specs.declared.defined.Parts.{Parts}
-use Rattle.evm_scene.specs.Tables.{Table, figure_of, reads_at, scene_of}
+use Rattle.evm_formulas.specs.Stated.{figure_of}
+use Rattle.evm_scene.specs.Tables.{Table, reads_at, scene_of}
 use Rattle.evm_scene.specs.Orders.{Parted}
 
 -- whether an operand is another name than the one that is being made, and does not stand

@@ -3,9 +3,10 @@ use Rattle.std.specs.Prelude.{ℕ, ◌≡◌, true, false, ℤ, List, Some, is_s
 use Rattle.evm_model.specs.Figures.{Figure, xor_of, or_of, sub_of}
 use Rattle.evm_model.specs.Scene.{Scene, with_figure}
 use Rattle.evm_model.specs.Edits as model
-use Rattle.evm_scene.specs.Tables.{Table, node_at, kept, is_made, figure_of, scene_of}
-use Rattle.evm_scene.specs.Changes.{IsChange}
-use Rattle.evm_scene.specs.declared.node.Change.{Change}
+use Rattle.evm_formulas.specs.Stated.{figure_of}
+use Rattle.evm_scene.specs.Tables.{Table, node_at, kept, is_made, scene_of}
+use Rattle.evm_formulas.specs.Changes.{IsChange}
+use Rattle.evm_formulas.specs.declared.changes.Change.{Change}
 use Rattle.evm_scene.specs.declared.boxes.BoxEdit.{BoxEdit}
 use Rattle.evm_scene.specs.declared.boxes.BoxEdit.TheVariants.{Toggle, Add, Cut}
 use Rattle.evm_scene.specs.declared.edit.Refusal.{Refusal}

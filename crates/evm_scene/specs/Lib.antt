@@ -4,8 +4,7 @@ pub mod Changes
 pub mod Applied
 pub mod Shown
 pub mod Watched
-pub mod Combined
+pub mod Boxes
 pub mod Definitions
 pub mod InputEdits
-pub mod Operations
 pub mod Refused

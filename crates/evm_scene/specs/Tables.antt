@@ -1,24 +1,18 @@
 -- The table of names: nodes with their solids, and the value of a node where those of its operands are given.
-use Rattle.std.specs.Prelude.{ℕ, ◌≡◌, ◌+◌, ◌-◌, ◌*◌, Bool, true, false, pos, nat_abs, List, [], ◌∷◌, length, map, Option, None, Some, is_some, bytes_eq, if◌then◌else◌}
+use Rattle.std.specs.Prelude.{ℕ, ◌≡◌, Bool, true, false, pos, List, [], ◌∷◌, map, Option, None, Some, is_some, bytes_eq, if◌then◌else◌}
 use Rattle.std.specs.Map.{lookup}
-use Rattle.evm_cells.specs.Limits.{is_cell_coord}
-use Rattle.evm_cells.specs.Shapes.{is_shift}
 use Rattle.evm_cells.specs.Vertices.{cells}
 use Rattle.evm_rows.specs.Rows.{Vertices}
 use Rattle.evm_script.specs.declared.formula.Formula.{Formula}
-use Rattle.evm_script.specs.declared.formula.Formula.TheVariants.{Or, And, Sub, Xor, Box, Shift, Mirror, Swap, Clip, Slice, Proj, Lift}
-use Rattle.evm_model.specs.Figures.{Figure, nothing, box_fits, low_of, high_of}
+use Rattle.evm_model.specs.Figures.{Figure, nothing}
 use Rattle.evm_model.specs.Orders.{is_among}
-use Rattle.evm_model.specs.Scene.{Scene, Entry, What, Given, Made, operands, formula_value, formula_stays, is_dim, is_axis, is_range}
+use Rattle.evm_model.specs.Scene.{Scene, Entry, What, Given, Made, operands, formula_value, formula_stays, is_dim}
+use Rattle.evm_formulas.specs.Stated.{figure_of, operand_dim, FormulaStated}
 use Rattle.evm_scene.specs.declared.node.Node.{Node}
 
 -- names with their nodes, in the order of their making
 abbrev pub Table : Type 0
 Table = List (List ℕ × Node)
-
--- the figure that extreme vertices stand for
-abbrev pub figure_of : Vertices → Figure
-figure_of v = record { dim = v.dim; cells = cells v.dim v.rows }
 
 -- the node of a name, or none where the name does not stand
 abbrev pub node_at : Table → List ℕ → Option Node
@@ -66,36 +60,6 @@ dim_at t x = node_dim (node_at t x)
 abbrev pub is_made : Option Node → Bool
 is_made None = false
 is_made (Some n) = is_some n.formula
-
--- the dimension that the operands of a formula of dimension n have
-abbrev pub operand_dim : ℕ → Formula → ℕ
-operand_dim n (Or a b) = n
-operand_dim n (And a b) = n
-operand_dim n (Sub a b) = n
-operand_dim n (Xor a b) = n
-operand_dim n (Box dim nums) = n
-operand_dim n (Shift a nums) = n
-operand_dim n (Mirror a axis) = n
-operand_dim n (Swap a i j) = n
-operand_dim n (Clip a nums) = n
-operand_dim n (Slice a axis at) = n + 1
-operand_dim n (Proj a axis) = n + 1
-operand_dim n (Lift a axis lo hi) = n - 1
-
--- the numbers that a formula of dimension n states are as many as it asks for, and in their limits
-abbrev pub FormulaStated : ℕ → Formula → Type 0
-FormulaStated n (Or a b) = Unit {0}
-FormulaStated n (And a b) = Unit {0}
-FormulaStated n (Sub a b) = Unit {0}
-FormulaStated n (Xor a b) = Unit {0}
-FormulaStated n (Box dim nums) = (is_dim dim ≡ true) × (nat_abs dim ≡ n) × (length nums ≡ 2 * n) × (box_fits (low_of n nums) (high_of n nums) ≡ true)
-FormulaStated n (Shift a nums) = is_shift n nums ≡ true
-FormulaStated n (Mirror a axis) = is_axis n axis ≡ true
-FormulaStated n (Swap a i j) = (is_axis n i ≡ true) × (is_axis n j ≡ true)
-FormulaStated n (Clip a nums) = (length nums ≡ 2 * n) × (box_fits (low_of n nums) (high_of n nums) ≡ true)
-FormulaStated n (Slice a axis at) = (is_axis (n + 1) axis ≡ true) × (is_cell_coord (n + 1) at ≡ true)
-FormulaStated n (Proj a axis) = is_axis (n + 1) axis ≡ true
-FormulaStated n (Lift a axis lo hi) = (is_axis n axis ≡ true) × (is_range n lo hi ≡ true)
 
 -- a formula has this dimension, where its operands have these, and the numbers that it states are in their limits
 abbrev pub FormulaSized : ℕ → Formula → (List ℕ → ℕ) → Type 0

@@ -5,9 +5,10 @@ use Rattle.evm_model.specs.Figures.{Figure}
 use Rattle.evm_model.specs.Scene as model
 use Rattle.evm_watch.specs.Slots.{Seen, Free, Watches, Gone, seen_watches}
 use Rattle.evm_cells.specs.Localities.{Measure}
-use Rattle.evm_scene.specs.Tables.{Table, node_at, kept, figure_of, entries_of}
+use Rattle.evm_formulas.specs.Stated.{figure_of}
+use Rattle.evm_scene.specs.Tables.{Table, node_at, kept, entries_of}
 use Rattle.evm_scene.specs.Changes.{Pending, change_at}
-use Rattle.evm_scene.specs.declared.node.Change.{Change}
+use Rattle.evm_formulas.specs.declared.changes.Change.{Change}
 use Rattle.evm_scene.specs.declared.edit.AttachError.{AttachError}
 use Rattle.evm_scene.specs.declared.edit.AttachError.TheVariants as errors
 

@@ -5,13 +5,14 @@ ghost use Rattle.evm_model.specs.Orders.{is_among};
 ghost use Rattle.evm_model.specs.Scene.{is_dim, IsWell};
 ghost use Rattle.evm_model.specs.Edits as model;
 ghost use Rattle.evm_scene.specs.Applied.{Applies};
-ghost use Rattle.evm_scene.specs.Tables.{scene_of, figure_of, node_at, made_reads, node_value, node_stays, kept, dim_at, NodeSized, entries_of, entry_view};
+ghost use Rattle.evm_formulas.specs.Stated.{figure_of};
+ghost use Rattle.evm_scene.specs.Tables.{scene_of, node_at, made_reads, node_value, node_stays, kept, dim_at, NodeSized, entries_of, entry_view};
 ghost use Rattle.evm_scene.specs.Orders.{IsKept};
 
 use super::edit::{Changed, Refusal};
 use super::node::Node;
 use super::numbers::stated;
-use super::solids::{none, tree_of};
+use evm_formulas::solids::{none, tree_of};
 use evm_rows::NoMemory;
 use evm_script::{Name, Num};
 use indexmap::IndexMap;

@@ -3,18 +3,20 @@
 ghost use Rattle.std.specs.Prelude.{◌≡◌, ◌*◌, ℕ, List, length, true, Some, IfOk, MatchResult};
 ghost use Rattle.evm_model.specs.Figures.{box_fits, low_of, high_of, box_at, clip_of, xor_of};
 ghost use Rattle.evm_model.specs.Scene.{value};
-ghost use Rattle.evm_scene.specs.Tables.{figure_of, kept, scene_of, AllSized};
+ghost use Rattle.evm_formulas.specs.Stated.{figure_of};
+ghost use Rattle.evm_scene.specs.Tables.{kept, scene_of, AllSized};
 ghost use Rattle.evm_scene.specs.Watched.{IsWatched, StaysWatched};
 ghost use Rattle.evm_scene.specs.Orders.{IsKept};
-ghost use Rattle.evm_scene.specs.Changes.{IsChange};
+ghost use Rattle.evm_formulas.specs.Changes.{IsChange};
 ghost use Rattle.evm_scene.specs.Applied.{Applies};
 ghost use Rattle.evm_scene.specs.InputEdits.{figure_by, edit_by, IsRefused, IsPlanned};
 
 use super::edit::{Changed, Refusal};
 use super::inputs::set_input;
-use super::node::{Change, Node};
+use super::node::Node;
 use super::numbers::box_of;
-use super::solids::{changed, exclusive_or};
+use evm_formulas::changes::Change;
+use evm_formulas::solids::{changed, exclusive_or};
 use evm_meter::Meter;
 use evm_rows::{NoMemory, Solid, limit};
 use evm_script::{Name, Nums};

@@ -4,17 +4,20 @@ ghost use Rattle.std.specs.Prelude.{◌≡◌, ◌↔◌, ℕ, List, true, false
 ghost use Rattle.evm_delta.specs.Shapes.{Fits, op1_dim};
 ghost use Rattle.evm_model.specs.Orders.{is_among, Ordered};
 ghost use Rattle.evm_model.specs.Scene.{dim_of};
-ghost use Rattle.evm_scene.specs.Tables.{figure_of, node_at, reads_at, node_value, node_stays, kept, scene_of, AllSized, AllFixed, AllStay};
-ghost use Rattle.evm_scene.specs.Combined.{combine_of};
-ghost use Rattle.evm_scene.specs.Operations.{shape_of, shape_stays};
-ghost use Rattle.evm_scene.specs.Changes.{change_at, moved, after_of, IsChange, IsStill, Moves, MovesNode, IsCarried, IsCarriedTo, IsHalted, AllChange};
+ghost use Rattle.evm_formulas.specs.Stated.{figure_of};
+ghost use Rattle.evm_scene.specs.Tables.{node_at, reads_at, node_value, node_stays, kept, scene_of, AllSized, AllFixed, AllStay};
+ghost use Rattle.evm_formulas.specs.Combined.{combine_of};
+ghost use Rattle.evm_formulas.specs.Operations.{shape_of, shape_stays};
+ghost use Rattle.evm_formulas.specs.Changes.{after_of, IsChange, IsStill, Moves};
+ghost use Rattle.evm_scene.specs.Changes.{change_at, moved, MovesNode, IsCarried, IsCarriedTo, IsHalted, AllChange};
 
 use super::formulas::solid_of;
-use super::node::{Change, Node, both_changed, one_changed};
-use super::operations::{Operation, operation_of};
-use super::solids::is_none;
+use super::node::Node;
 use evm_boolean::Op2;
 use evm_delta::{DeltaError, Op1};
+use evm_formulas::changes::{Change, both_changed, one_changed};
+use evm_formulas::operations::{Operation, operation_of};
+use evm_formulas::solids::is_none;
 use evm_rows::NoMemory;
 use evm_script::Name;
 use evm_tiles::Tiles;

@@ -4,8 +4,9 @@ ghost use Rattle.std.specs.Prelude.{◌≡◌, ℕ, List, Some, None, true, is_s
 ghost use Rattle.evm_scene.specs.Tables.{put_solid};
 ghost use Rattle.evm_scene.specs.Changes.{change_at, put_all, IsCount};
 
-use super::node::{Change, Node};
-use super::solids::is_none;
+use super::node::Node;
+use evm_formulas::changes::Change;
+use evm_formulas::solids::is_none;
 use evm_script::Name;
 use evm_tiles::Tiles;
 use indexmap::IndexMap;

@@ -4,16 +4,19 @@ ghost use Rattle.std.specs.Prelude.{◌≡◌, ◌<◌, length, slice_index_or, 
 ghost use Rattle.evm_model.specs.Orders.{is_among};
 ghost use Rattle.evm_model.specs.Scene.{with_figure, all_stay};
 ghost use Rattle.evm_model.specs.Edits.{changed_names};
-ghost use Rattle.evm_scene.specs.Tables.{node_at, kept, is_made, figure_of, scene_of};
+ghost use Rattle.evm_formulas.specs.Stated.{figure_of};
+ghost use Rattle.evm_scene.specs.Tables.{node_at, kept, is_made, scene_of};
 ghost use Rattle.evm_scene.specs.Watched.{IsWatched, StaysWatched};
 ghost use Rattle.evm_scene.specs.Orders.{IsKept};
-ghost use Rattle.evm_scene.specs.Changes.{change_at, IsChange, IsCarried, IsHalted, IsPlaced};
+ghost use Rattle.evm_formulas.specs.Changes.{IsChange};
+ghost use Rattle.evm_scene.specs.Changes.{change_at, IsCarried, IsHalted, IsPlaced};
 
 use super::carry::{carry, put};
 use super::commit::{commit, set_solid, take_own};
-use super::node::{Change, Node};
+use super::node::Node;
 use super::watched::prepare;
 use evm_delta::DeltaError;
+use evm_formulas::changes::Change;
 use evm_meter::Meter;
 use evm_script::Name;
 use evm_watch::Slots;

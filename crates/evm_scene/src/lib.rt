@@ -22,15 +22,11 @@ mod formulas;
 mod inputs;
 mod node;
 mod numbers;
-mod operations;
-mod ranges;
 mod removed;
 mod reorder;
 mod replaced;
 mod scene;
-mod shapes;
 mod slots;
-mod solids;
 #[cfg(test)]
 mod tests;
 mod watched;

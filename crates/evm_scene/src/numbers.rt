@@ -2,7 +2,7 @@
 
 ghost use Rattle.std.specs.Prelude.{◌≡◌, ◌≤◌, ◌<◌, ◌*◌, pos, nat_abs, length, true, false, MatchOption};
 ghost use Rattle.evm_model.specs.Scene.{is_dim};
-ghost use Rattle.evm_scene.specs.Combined.{MakesBox};
+ghost use Rattle.evm_scene.specs.Boxes.{MakesBox};
 
 use super::edit::Refusal;
 use evm_rows::{BoxError, Solid, limit};

@@ -12,7 +12,7 @@ ghost use Rattle.evm_scene.specs.Applied.{Applies};
 
 use super::edit::{Changed, Refusal};
 use super::node::Node;
-use super::operations::{Operands, operands_of};
+use evm_formulas::operations::{Operands, operands_of};
 use evm_meter::Meter;
 use evm_script::{Formula, Name};
 use evm_watch::Slots;

@@ -7,7 +7,7 @@ ghost use Rattle.evm_scene.specs.Tables.{reads_at};
 ghost use Rattle.evm_scene.specs.Orders.{meets, Parted};
 
 use super::node::Node;
-use super::operations::{Operands, operands_of};
+use evm_formulas::operations::{Operands, operands_of};
 use evm_rows::NoMemory;
 use evm_script::{Formula, Name};
 use indexmap::{IndexMap, IndexSet};

@@ -3,7 +3,8 @@
 ghost use Rattle.std.specs.Prelude.{◌≡◌, MatchResult};
 ghost use Rattle.evm_model.specs.Scene.{value};
 ghost use Rattle.evm_model.specs.Edits as model;
-ghost use Rattle.evm_scene.specs.Tables.{figure_of, kept, scene_of, AllSized};
+ghost use Rattle.evm_formulas.specs.Stated.{figure_of};
+ghost use Rattle.evm_scene.specs.Tables.{kept, scene_of, AllSized};
 ghost use Rattle.evm_scene.specs.Watched.{IsWatched, StaysWatched};
 ghost use Rattle.evm_scene.specs.Orders.{IsKept};
 ghost use Rattle.evm_scene.specs.Applied.{Applies};
@@ -11,7 +12,8 @@ ghost use Rattle.evm_scene.specs.InputEdits.{IsRefused, IsPlanned};
 
 use super::edit::{Changed, Refusal};
 use super::inputs::set_input;
-use super::node::{Change, Node, changed_to};
+use super::node::Node;
+use evm_formulas::changes::{Change, changed_to};
 use evm_meter::Meter;
 use evm_rows::Solid;
 use evm_script::Name;

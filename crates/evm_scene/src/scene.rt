@@ -4,7 +4,7 @@ ghost use Rattle.std.specs.Prelude.{◌≡◌, ◌<◌, ℕ, true, false, length
 ghost use Rattle.evm_cells.specs.Vertices.{evm, cells};
 ghost use Rattle.evm_rows.specs.Rows.{IsSolid};
 ghost use Rattle.evm_model.specs.Scene.{start_with, stands, dim_of, is_input, value, IsWell};
-ghost use Rattle.evm_scene.specs.Tables.{figure_of};
+ghost use Rattle.evm_formulas.specs.Stated.{figure_of};
 ghost use Rattle.evm_scene.specs.Shown.{formula_of, Refuses};
 
 use super::edit::{Entry, Refusal};

@@ -5,12 +5,15 @@ ghost use Rattle.std.specs.List.{list_any};
 ghost use Rattle.evm_rows.specs.Rows.{Vertices};
 ghost use Rattle.evm_model.specs.Scene.{value};
 ghost use Rattle.evm_watch.specs.Slots.{seen_watches, EachReads, seen_prepared, seen_abandoned};
-ghost use Rattle.evm_scene.specs.Tables.{figure_of, node_at, kept, scene_of};
-ghost use Rattle.evm_scene.specs.Changes.{IsChange, AllChange};
+ghost use Rattle.evm_formulas.specs.Stated.{figure_of};
+ghost use Rattle.evm_scene.specs.Tables.{node_at, kept, scene_of};
+ghost use Rattle.evm_formulas.specs.Changes.{IsChange};
+ghost use Rattle.evm_scene.specs.Changes.{AllChange};
 ghost use Rattle.evm_scene.specs.Watched.{IsWatched, prepared_by, watched_scene, Attaches};
 
 use super::edit::AttachError;
-use super::node::{Change, Node};
+use super::node::Node;
+use evm_formulas::changes::Change;
 use evm_meter::Meter;
 use evm_rows::NoMemory;
 use evm_script::Name;

@@ -15,7 +15,7 @@ use Rattle.evm_member.specs.Place.{place_of}
 use Rattle.evm_member.specs.declared.outcome.Place.TheVariants as places
 use Rattle.evm_model.specs.Figures as figures
 use Rattle.evm_model.specs.Replies.{Measured, line_of, reply_text}
-use Rattle.evm_scene.specs.Tables.{figure_of}
+use Rattle.evm_formulas.specs.Stated.{figure_of}
 use Rattle.evm_script.specs.Coordinates.{is_between}
 use Rattle.evm_session.specs.Questions.{place_view}
 

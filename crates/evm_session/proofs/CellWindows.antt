@@ -1,7 +1,7 @@
 -- What a solid has in a box that begins at a cell tells whether it has the cell.
 use Rattle.std.proofs.Common.{◌≡◌, ℕ, Bool, true, false, ◌&&◌, List, [], ◌∷◌, length, ℤ, int_le, int_lt, refl, sym, ap, ◌∙◌, ◌↔◌, ◌≤◌, take, arith}
 use Rattle.std.proofs.lemmas.List.{length-take-le}
-use Rattle.evm_scene.proofs.Corners.{must_fit}
+use Rattle.evm_formulas.proofs.Corners.{must_fit}
 use Rattle.std.proofs.lemmas.Int.{ints}
 use Rattle.evm_cells.specs.Places.{each, has}
 use Rattle.evm_cells.specs.Limits.{is_cell, is_point}

@@ -19,7 +19,7 @@ use Rattle.evm_faces.specs.declared.counts.CutFaces.{CutFaces as Counted}
 use Rattle.evm_parts.proofs.FloodChains.{floods_are_parts}
 use Rattle.evm_model.specs.Figures.{Figure, faces_at, faces_of, parts_of, vertices_in, content_of}
 use Rattle.evm_model.specs.Replies.{Faced, Parted, line_of, rows_text, cut_text, cuts_text, part_text, parts_text, reply_text}
-use Rattle.evm_scene.specs.Tables.{figure_of}
+use Rattle.evm_formulas.specs.Stated.{figure_of}
 use Rattle.evm_session.specs.Counted.{cut_line, cut_lines, cuts_reply, part_lines, parts_lines, parts_reply}
 use Rattle.evm_session.specs.Says.{Extends, Says}
 use Rattle.evm_session.proofs.Rows.{append_nil, says_after, header_said, extends_more}

@@ -13,7 +13,7 @@ use Rattle.evm_file.proofs.Reading.{err_with}
 use Rattle.evm_model.specs.Figures.{Figure}
 use Rattle.evm_model.specs.Files.{is_evm_file, evm_figure}
 use Rattle.evm_model.proofs.FileLaws.{tested_file, loads_saved}
-use Rattle.evm_scene.specs.Tables.{figure_of}
+use Rattle.evm_formulas.specs.Stated.{figure_of}
 use Rattle.evm_session.specs.Loads.{ReadsFigure}
 use Rattle.evm_session.specs.Refusals.{of_file_error}
 

@@ -20,7 +20,7 @@ use Rattle.evm_model.specs.Reports.{axis_end, end_from, ends_of, each_axis, less
 use Rattle.evm_model.specs.Replies.{Reported, line_of, reply_text}
 use Rattle.evm_model.specs.Scene.{Scene, Entry, What, Given, Made, entry_of, what_operands, entry_operands, stands, value}
 use Rattle.evm_scene.specs.Shown.{formula_of, what_formula, entry_formula}
-use Rattle.evm_scene.specs.Tables.{figure_of}
+use Rattle.evm_formulas.specs.Stated.{figure_of}
 use Rattle.evm_session.specs.Reported.{kind_by, operands_by, facts_with}
 
 -- ---- names

@@ -8,7 +8,7 @@ use Rattle.std.proofs.lemmas.Grind.{flat_map-append}
 use Rattle.evm_model.specs.Replies.{Changed, Measured, Shown, line_of, spaced, rows_text, reply_text}
 use Rattle.evm_model.specs.Figures.{vertices_in}
 use Rattle.evm_cells.specs.Vertices.{evm, cells}
-use Rattle.evm_scene.specs.Tables.{figure_of}
+use Rattle.evm_formulas.specs.Stated.{figure_of}
 use Rattle.evm_session.specs.Says.{Extends, Says, behind_spaces}
 use Rattle.evm_rows.specs.Rows.{Vertices, rows_of}
 use Rattle.evm_rows.specs.declared.solid.NoMemory.{NoMemory}

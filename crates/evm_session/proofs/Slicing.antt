@@ -15,7 +15,7 @@ use Rattle.evm_model.specs.Edits.{Name, Dim, Range, first_cause, section_causes,
 use Rattle.evm_model.specs.Replies.{Reply}
 use Rattle.evm_model.specs.Steps.{asked, stays, unless_refused}
 use Rattle.evm_model.proofs.Lookups.{found_passes}
-use Rattle.evm_scene.specs.Tables.{figure_of}
+use Rattle.evm_formulas.specs.Stated.{figure_of}
 use Rattle.evm_script.specs.Coordinates.{is_between}
 use Rattle.evm_session.proofs.Answering.{below_next}
 

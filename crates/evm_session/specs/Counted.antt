@@ -4,7 +4,7 @@ use Rattle.evm_rows.specs.Rows.{Vertices}
 use Rattle.evm_faces.specs.declared.counts.CutFaces.{CutFaces as Counted}
 use Rattle.evm_model.specs.Figures.{CutFaces}
 use Rattle.evm_model.specs.Replies.{line_of, cut_text, part_text}
-use Rattle.evm_scene.specs.Tables.{figure_of}
+use Rattle.evm_formulas.specs.Stated.{figure_of}
 
 -- the faces at a cut, as the model has them
 abbrev pub cut_view : Counted → CutFaces

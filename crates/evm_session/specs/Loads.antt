@@ -7,7 +7,7 @@ use Rattle.evm_model.specs.Files.{is_threshold, form_fits, form_in_range}
 use Rattle.evm_model.specs.Scene.{Scene, dim_of}
 use Rattle.evm_model.specs.Edits.{Code, Dim, Range, first_cause}
 use Rattle.evm_model.specs.Steps.{load_causes}
-use Rattle.evm_scene.specs.Tables.{figure_of}
+use Rattle.evm_formulas.specs.Stated.{figure_of}
 use Rattle.evm_session.specs.declared.refusals.Refusal.{Refusal}
 use Rattle.evm_session.specs.declared.refusals.Refusal.TheVariants.{NoMemory, Form}
 use Rattle.evm_session.specs.Refusals.{code_of}

@@ -6,7 +6,7 @@ use Rattle.evm_script.specs.Printed.{formula_words}
 use Rattle.evm_script.specs.declared.formula.Formula.{Formula}
 use Rattle.evm_model.specs.Formulas.{operands}
 use Rattle.evm_model.specs.Reports.{lesser, greater, facts_by}
-use Rattle.evm_scene.specs.Tables.{figure_of}
+use Rattle.evm_formulas.specs.Stated.{figure_of}
 use Rattle.evm_session.specs.declared.reports.End.{End}
 use Rattle.evm_session.specs.declared.reports.End.TheVariants.{Low, High}
 

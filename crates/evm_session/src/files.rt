@@ -2,7 +2,7 @@
 
 ghost use Rattle.std.specs.Prelude.{◌≡◌, ◌≤◌, true, IfOk};
 ghost use Rattle.evm_model.specs.Files.{bytes_in, save_fits};
-ghost use Rattle.evm_scene.specs.Tables.{figure_of};
+ghost use Rattle.evm_formulas.specs.Stated.{figure_of};
 ghost use Rattle.evm_session.specs.Answers.{shelf_view};
 ghost use Rattle.evm_session.specs.Loads.{FindsInput};
 ghost use Rattle.evm_session.specs.Requests.{request_of, CarriesOver};

@@ -4,7 +4,7 @@ ghost use Rattle.std.specs.Prelude.{◌≡◌, ◌++◌, ◌∷◌, [], ◌+◌,
 ghost use Rattle.std.specs.Fmt.{signed_decimal};
 ghost use Rattle.evm_model.specs.Replies.{line_of, spaced, rows_text, reply_text, Changed, Done, Measured, Shown};
 ghost use Rattle.evm_rows.specs.View.{vertices_of};
-ghost use Rattle.evm_scene.specs.Tables.{figure_of};
+ghost use Rattle.evm_formulas.specs.Stated.{figure_of};
 ghost use Rattle.evm_session.specs.Says.{Says, behind_spaces};
 ghost use Rattle.evm_session.specs.Counted.{cut_line, cuts_reply, part_lines, parts_reply};
 

@@ -1,6 +1,7 @@
 use Rattle.std.proofs.Common.{◌≡◌, ◌∙◌, true, false, is_some, rules, refl, ap}
 use Rattle.evm_model.specs.Scene.{is_dim}
-use Rattle.evm_scene.specs.Tables.{figure_of, node_at}
+use Rattle.evm_formulas.specs.Stated.{figure_of}
+use Rattle.evm_scene.specs.Tables.{node_at}
 use Rattle.evm_scene.proofs.NewNames.{input_refusal, input_done}
 use Rattle.evm_scene.proofs.added.input.Goals as goal
 

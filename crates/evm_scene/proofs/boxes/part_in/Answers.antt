@@ -2,7 +2,7 @@ use Rattle.std.proofs.Common.{◌≡◌, ℕ, pos, neg_ℤ, ◌-ℤ◌, false, t
 use Rattle.std.proofs.lemmas.Bool.{false≢true}
 use Rattle.evm_cells.specs.Limits.{limit}
 use Rattle.evm_model.specs.Figures.{box_fits}
-use Rattle.evm_scene.proofs.Corners.{between_points, no_box}
+use Rattle.evm_formulas.proofs.Corners.{between_points, no_box}
 use Rattle.evm_scene.proofs.BoxChanges.{corners_fit, part_figure}
 use Rattle.evm_scene.proofs.boxes.part_in.Goals as goal
 

@@ -1,6 +1,6 @@
 use Rattle.std.proofs.Common.{rules}
 use Rattle.evm_scene.specs.Tables.{node_at, kept}
-use Rattle.evm_scene.proofs.Figures.{node_set}
+use Rattle.evm_scene.proofs.Nodes.{node_set}
 use Rattle.evm_scene.proofs.Walks.{walk_start, walk_more, walk_new_at, walk_halted_at, walk_done, carried_still}
 use Rattle.evm_scene.proofs.carry.carry.Goals as goal
 

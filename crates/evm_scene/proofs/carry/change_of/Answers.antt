@@ -1,5 +1,5 @@
 use Rattle.std.proofs.Common.{sym}
-use Rattle.evm_scene.specs.declared.operations.Operation.TheVariants as does
+use Rattle.evm_formulas.specs.declared.operations.Operation.TheVariants as does
 use Rattle.evm_scene.proofs.FormulaLaws.{node_operation}
 use Rattle.evm_scene.proofs.carry.change_of.Goals as goal
 

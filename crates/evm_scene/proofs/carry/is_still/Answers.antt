@@ -1,6 +1,6 @@
 use Rattle.std.proofs.Common.{subst}
-use Rattle.evm_scene.specs.Changes.{IsStill}
-use Rattle.evm_scene.proofs.Figures.{still_change}
+use Rattle.evm_formulas.specs.Changes.{IsStill}
+use Rattle.evm_formulas.proofs.Figures.{still_change}
 use Rattle.evm_scene.proofs.carry.is_still.Goals as goal
 
 pub returns-in-Some : goal.returns-in-Some

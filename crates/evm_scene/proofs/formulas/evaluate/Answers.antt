@@ -1,6 +1,6 @@
 use Rattle.std.proofs.Common.{◌≡◌, true, rules}
 use Rattle.evm_model.specs.Scene.{formula_in_range}
-use Rattle.evm_scene.specs.declared.operations.Operation.TheVariants as does
+use Rattle.evm_formulas.specs.declared.operations.Operation.TheVariants as does
 use Rattle.evm_scene.specs.Tables.{scene_of}
 use Rattle.evm_scene.proofs.FormulaLaws.{operation_at}
 use Rattle.evm_scene.proofs.formulas.evaluate.Goals as goal

@@ -1,7 +1,7 @@
 use Rattle.std.proofs.Common.{◌≡◌, pos, ◌-ℤ◌, neg_ℤ, take, drop, length, to_z, of_z, w32, Err, rules, sym, ◌∙◌, ap}
 use Rattle.evm_cells.specs.Limits.{limit}
 use Rattle.evm_cells.specs.Boxes.{is_box}
-use Rattle.evm_scene.proofs.Corners.{between_points, no_box, fits_by, box_by, box_dim, must_fit}
+use Rattle.evm_formulas.proofs.Corners.{between_points, no_box, fits_by, box_by, box_dim, must_fit}
 use Rattle.evm_scene.proofs.numbers.box_of.Goals as goal
 
 pub returns-in_default : goal.returns-in_default

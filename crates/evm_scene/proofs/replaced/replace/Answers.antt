@@ -2,7 +2,8 @@ use Rattle.std.proofs.Common.{◌≡◌, Err, sym, subst, ap}
 use Rattle.evm_delta.specs.declared.shapes.DeltaError.{DeltaError}
 use Rattle.evm_model.specs.Edits as model
 use Rattle.evm_scene.specs.declared.edit.Refusal.{Refusal}
-use Rattle.evm_scene.specs.Tables.{figure_of, scene_of}
+use Rattle.evm_formulas.specs.Stated.{figure_of}
+use Rattle.evm_scene.specs.Tables.{scene_of}
 use Rattle.evm_scene.specs.Applied.{Applies}
 use Rattle.evm_scene.proofs.Planned.{planned_done, planned_failed}
 use Rattle.evm_scene.proofs.replaced.replace.Goals as goal

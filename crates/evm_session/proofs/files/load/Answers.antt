@@ -5,7 +5,7 @@ use Rattle.evm_model.specs.Edits.{Replace, changed}
 use Rattle.evm_model.specs.Files.{figure_in}
 use Rattle.evm_model.specs.Replies.{Changed}
 use Rattle.evm_model.specs.Steps.{Turn, edited}
-use Rattle.evm_scene.specs.Tables.{figure_of}
+use Rattle.evm_formulas.specs.Stated.{figure_of}
 use Rattle.evm_session.specs.Carried.{Carries}
 use Rattle.evm_session.specs.Loads.{ReadsFigure}
 use Rattle.evm_session.proofs.Loading.{load_early, load_edits, load_over, unread_carries}

@@ -4,7 +4,7 @@ use Rattle.evm_rows.specs.Rows.{Vertices}
 use Rattle.evm_model.specs.Files.{bytes_in, save_fits}
 use Rattle.evm_model.specs.Scene.{dim_of}
 use Rattle.evm_model.specs.Replies.{Measured, reply_text}
-use Rattle.evm_scene.specs.Tables.{figure_of}
+use Rattle.evm_formulas.specs.Stated.{figure_of}
 use Rattle.evm_session.proofs.Loading.{save_done, save_unfit}
 use Rattle.evm_session.proofs.Slicing.{deep_enough}
 use Rattle.evm_session.proofs.files.save.Goals as goal

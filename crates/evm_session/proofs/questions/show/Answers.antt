@@ -4,7 +4,7 @@ use Rattle.evm_model.specs.Scene.{value}
 use Rattle.evm_model.specs.Edits.{name_causes}
 use Rattle.evm_model.specs.Replies.{Shown, reply_text}
 use Rattle.evm_model.specs.Steps.{asked}
-use Rattle.evm_scene.specs.Tables.{figure_of}
+use Rattle.evm_formulas.specs.Stated.{figure_of}
 use Rattle.evm_session.proofs.Turns.{carried, asked_found}
 use Rattle.evm_session.proofs.questions.show.Goals as goal
 

@@ -4,7 +4,7 @@ use Rattle.evm_rows.specs.View.{vertices_of}
 use Rattle.evm_model.specs.Figures.{Figure, proj_of}
 use Rattle.evm_model.specs.Scene.{value}
 use Rattle.evm_model.specs.Replies.{Shown, reply_text}
-use Rattle.evm_scene.specs.Tables.{figure_of}
+use Rattle.evm_formulas.specs.Stated.{figure_of}
 use Rattle.evm_session.proofs.Turns.{carried}
 use Rattle.evm_session.proofs.Slicing.{deep_enough, axis_by, proj_found}
 use Rattle.evm_session.proofs.sections.project.Goals as goal

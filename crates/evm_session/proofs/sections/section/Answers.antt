@@ -2,7 +2,7 @@ use Rattle.std.proofs.Common.{◌≡◌, ◌++◌, ◌≤◌, ℕ, true, nat_abs
 use Rattle.evm_model.specs.Figures.{Figure, slice_of}
 use Rattle.evm_model.specs.Scene.{value}
 use Rattle.evm_model.specs.Replies.{Shown, reply_text}
-use Rattle.evm_scene.specs.Tables.{figure_of}
+use Rattle.evm_formulas.specs.Stated.{figure_of}
 use Rattle.evm_session.proofs.Turns.{carried}
 use Rattle.evm_session.proofs.Slicing.{deep_enough, section_by, slice_found}
 use Rattle.evm_session.proofs.sections.section.Goals as goal

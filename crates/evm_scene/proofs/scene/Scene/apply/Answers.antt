@@ -3,7 +3,8 @@ use Rattle.evm_model.specs.Scene.{Scene, IsWell}
 use Rattle.evm_model.specs.Edits as model
 use Rattle.evm_model.proofs.SlotLaws.{well_bare}
 use Rattle.evm_scene.specs.declared.edit.Edit.{Edit}
-use Rattle.evm_scene.specs.Tables.{figure_of, scene_of}
+use Rattle.evm_formulas.specs.Stated.{figure_of}
+use Rattle.evm_scene.specs.Tables.{scene_of}
 use Rattle.evm_scene.specs.Applied.{Applies, edit_view}
 use Rattle.evm_scene.specs.Watched.{slots_of, watched_scene}
 use Rattle.evm_scene.proofs.Watching.{watched_added}

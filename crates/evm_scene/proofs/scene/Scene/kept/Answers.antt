@@ -1,7 +1,8 @@
 use Rattle.std.proofs.Common.{◌≡◌, true, false, Option, Some, is_some, sym, ap, ◌∙◌, subst}
 use Rattle.evm_model.specs.Scene.{Scene, stands, dim_of, value}
 use Rattle.evm_scene.specs.declared.node.Node.{Node}
-use Rattle.evm_scene.specs.Tables.{figure_of, node_at, node_figure, node_dim, dim_at, NodeSized}
+use Rattle.evm_formulas.specs.Stated.{figure_of}
+use Rattle.evm_scene.specs.Tables.{node_at, node_figure, node_dim, dim_at, NodeSized}
 use Rattle.evm_scene.proofs.Views.{stands_at, dim_is, kept_is_value}
 use Rattle.evm_scene.proofs.scene.Scene.kept.Goals as goal
 

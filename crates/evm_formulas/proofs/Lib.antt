@@ -1,0 +1,4 @@
+pub mod Figures
+pub mod Corners
+pub mod ShapeValues
+pub mod Stated

@@ -1,0 +1,10 @@
+use Rattle.std.proofs.Common.{◌∙◌}
+use Rattle.evm_rows.specs.View.{vertices_of}
+use Rattle.evm_formulas.proofs.Figures.{combine_made}
+use Rattle.evm_formulas.proofs.solids.combine.Goals as goal
+
+pub returns-clause-value : goal.returns-clause-value
+returns-clause-value c =
+    combine_made c.args.a.now c.args.b.now (vertices_of c.rows.result) (vertices_of c.rows-2.result) c.in_ok-made.made
+    (c.rows.ensures ∙ c.in_ok-left.ensures) (c.rows-2.ensures ∙ c.in_ok-right.ensures) c.requires
+    c.args.op c.in_ok-made.ensures.dim c.in_ok-made.ensures.cells

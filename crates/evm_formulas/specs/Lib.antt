@@ -1,0 +1,4 @@
+pub mod Stated
+pub mod Operations
+pub mod Combined
+pub mod Changes

@@ -1,0 +1,129 @@
+//! Changes of solids that are not in place yet, and how formulas carry them on.
+
+ghost use Rattle.std.specs.Prelude.{◌≡◌, ◌↔◌, true, false, IfOk, IsErrOf};
+ghost use Rattle.std.specs.Option.{option_copied};
+ghost use Rattle.evm_delta.specs.Shapes.{Fits, op1_dim};
+ghost use Rattle.evm_model.specs.Figures.{nothing, xor_of};
+ghost use Rattle.evm_formulas.specs.Stated.{figure_of};
+ghost use Rattle.evm_formulas.specs.Combined.{combine_of};
+ghost use Rattle.evm_formulas.specs.Operations.{shape_of, shape_stays};
+ghost use Rattle.evm_formulas.specs.Changes.{after_of, IsChange, Moves};
+
+use super::shapes::shape_change;
+use super::solids::{change, changed, exclusive_or, is_none, none, stays, tree_of};
+use evm_boolean::Op2;
+use evm_delta::{DeltaError, Op1};
+use evm_rows::{NoMemory, Solid};
+use evm_tiles::Tiles;
+use std::alloc::Global;
+
+/// A change of a solid that is made and not in place yet.
+#[derive(Drop)]
+pub struct Change {
+    /// The exclusive or of the solid before and after.
+    pub delta: Solid,
+    /// The solid after. What the change does not meet it shares with the solid before.
+    pub after: Tiles,
+}
+
+/// The change of a solid to another. Takes memory for the rows of both, and for the change.
+pub fn changed_to(alloc: Global, own: &Tiles, after: Solid) -> Result<Change, NoMemory>
+    requires { after.dim ≡ own.now.dim }
+    ensures after { IfOk result (λ c. c.after ≡ after) }
+    ensures change { IfOk result (λ c. IsChange (Some c) (figure_of own.now)) }
+{
+    let before = own.to_rows(alloc)?;
+    let delta = exclusive_or(alloc, &before, &after)?;
+    let after = tree_of(alloc, &after)?;
+    Ok(Change { delta, after })
+}
+
+/// The change of an operand, or the one without cells.
+fn delta_or<'a>(change: Option<&'a Change>, own: &Tiles, still: &'a Solid) -> &'a Solid
+    requires change { IsChange (option_copied change) (figure_of own.now) }
+    requires still { figure_of still.now ≡ nothing own.now.dim }
+    requires dim { still.now.dim ≡ own.now.dim }
+    ensures dim { result.now.dim ≡ own.now.dim }
+    ensures after { xor_of (figure_of own.now) (figure_of result.now)
+        ≡ after_of (option_copied change.entry) (figure_of own.now) }
+{
+    stays(own);
+    match change {
+        Some(c) => &c.delta,
+        None => still,
+    }
+}
+
+/// How a Boolean changes with its operands, or none where it does not.
+///
+/// `own` is the Boolean of `a` and `b` before their changes. Where neither operand changes, nothing is looked at.
+pub fn both_changed(
+    alloc: Global,
+    op: Op2,
+    own: &Tiles,
+    a: &Tiles,
+    da: Option<&Change>,
+    b: &Tiles,
+    db: Option<&Change>,
+) -> Result<Option<Change>, NoMemory>
+    requires value { figure_of own.now ≡ combine_of op (figure_of a.now) (figure_of b.now) }
+    requires first { a.now.dim ≡ own.now.dim }
+    requires second { b.now.dim ≡ own.now.dim }
+    requires first_change { IsChange (option_copied da) (figure_of a.now) }
+    requires second_change { IsChange (option_copied db) (figure_of b.now) }
+    ensures after { IfOk result
+        (λ c. after_of c (figure_of own.now)
+        ≡ combine_of op (after_of (option_copied da.entry) (figure_of a.now))
+        (after_of (option_copied db.entry) (figure_of b.now))) }
+    ensures change { IfOk result (λ c. IsChange c (figure_of own.now)) }
+    ensures moves { IfOk result (λ c. Moves c (figure_of own.now)) }
+{
+    if da.is_none() && db.is_none() {
+        return Ok(None);
+    }
+    own.facts();
+    let still = none(alloc, own.dim());
+    let first = delta_or(da, a, &still);
+    let second = delta_or(db, b, &still);
+    let delta = change(alloc, op, a, first, b, second)?;
+    let after = changed(alloc, own, &delta)?;
+    if is_none(&delta) {
+        return Ok(None);
+    }
+    Ok(Some(Change { delta, after }))
+}
+
+/// How a shape changes with its operand, or none where it does not.
+///
+/// `own` is the shape of `a` before its change. Where the operand does not change, nothing is looked at. It is `Range` exactly
+/// where the shape moves some cell of the changed operand out of the limits.
+pub fn one_changed(
+    alloc: Global,
+    op: &Op1,
+    own: &Tiles,
+    a: &Tiles,
+    da: Option<&Change>,
+) -> Result<Option<Change>, DeltaError>
+    requires value { figure_of own.now ≡ shape_of op.now (figure_of a.now) }
+    requires fits { Fits op.now a.now.dim }
+    requires dim { own.now.dim ≡ op1_dim op.now a.now.dim }
+    requires stays { shape_stays op.now (figure_of a.now) ≡ true }
+    requires change { IsChange (option_copied da) (figure_of a.now) }
+    ensures after { IfOk result
+        (λ c. after_of c (figure_of own.now)
+        ≡ shape_of op.now (after_of (option_copied da.entry) (figure_of a.now))) }
+    ensures change { IfOk result (λ c. IsChange c (figure_of own.now)) }
+    ensures moves { IfOk result (λ c. Moves c (figure_of own.now)) }
+    ensures range { IsErrOf result DeltaError.Range
+        ↔ (shape_stays op.now (after_of (option_copied da.entry) (figure_of a.now)) ≡ false) }
+{
+    let Some(moved) = da else {
+        return Ok(None);
+    };
+    let delta = shape_change(alloc, op, a, &moved.delta)?;
+    if is_none(&delta) {
+        return Ok(None);
+    }
+    let after = changed(alloc, own, &delta)?;
+    Ok(Some(Change { delta, after }))
+}

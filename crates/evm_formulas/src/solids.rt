@@ -1,0 +1,112 @@
+//! Solids as figures: Booleans, exclusive ors and changes, as the scene needs them.
+
+ghost use Rattle.std.specs.Prelude.{◌≡◌, ◌<◌, ◌≤◌, ◌↔◌, [], true, false, IfOk, IsTrue};
+ghost use Rattle.evm_cells.specs.Vertices.{cells};
+ghost use Rattle.evm_model.specs.Figures.{nothing, xor_of, same_figure};
+ghost use Rattle.evm_formulas.specs.Stated.{figure_of};
+ghost use Rattle.evm_formulas.specs.Combined.{combine_of};
+
+use evm_boolean::Op2;
+use evm_rows::{NoMemory, Solid};
+use evm_tiles::Tiles;
+use std::alloc::Global;
+
+/// The solid without cells.
+pub fn none(alloc: Global, dim: usize) -> Solid
+    requires low { 0 < dim }
+    requires high { dim ≤ 6 }
+    ensures value { figure_of result ≡ nothing dim }
+    ensures dim { result.dim ≡ dim }
+{
+    Solid::empty(alloc, dim)
+}
+
+/// Whether a solid has no cells.
+pub fn is_none(solid: &Solid) -> bool
+    ensures { IsTrue result ↔ (cells solid.now.dim solid.now.rows ≡ []) }
+{
+    solid.facts();
+    solid.len() == 0
+}
+
+/// A law: the exclusive or with no cells changes nothing, and a solid has the cells that it has.
+pub fn stays(solid: &Tiles)
+    ensures empty { xor_of (figure_of solid.now) (nothing solid.now.dim) ≡ figure_of solid.now }
+    ensures same { same_figure (figure_of solid.now) (figure_of solid.now) ≡ true }
+{
+    let _read = solid.dim();
+}
+
+/// The tree of a solid. Takes memory for its rows.
+pub fn tree_of(alloc: Global, solid: &Solid) -> Result<Tiles, NoMemory>
+    ensures { IfOk result (λ t. t ≡ solid.now) }
+{
+    let made = Tiles::from_rows(alloc, solid.rows())?;
+    Ok(made)
+}
+
+/// The cells of just one of two solids: also the change between the two.
+pub fn exclusive_or(alloc: Global, a: &Solid, b: &Solid) -> Result<Solid, NoMemory>
+    requires { b.now.dim ≡ a.now.dim }
+    ensures value { IfOk result (λ s. figure_of s ≡ xor_of (figure_of a.now) (figure_of b.now)) }
+    ensures dim { IfOk result (λ s. s.dim ≡ a.now.dim) }
+
+    // The change from one solid to another takes the one to the other.
+    ensures back { IfOk result (λ s. xor_of (figure_of a.now) (figure_of s) ≡ figure_of b.now) }
+{
+    let made = evm_rows::xor(alloc, a.rows(), b.rows())?;
+    Ok(made)
+}
+
+/// The solid after a change, the exclusive or of the two. It shares with the solid before what the change does not meet.
+pub fn changed(alloc: Global, own: &Tiles, delta: &Solid) -> Result<Tiles, NoMemory>
+    requires { delta.now.dim ≡ own.now.dim }
+    ensures value { IfOk result
+        (λ t. figure_of t ≡ xor_of (figure_of own.now) (figure_of delta.now)) }
+    ensures dim { IfOk result (λ t. t.dim ≡ own.now.dim) }
+
+    // A change without cells changes nothing, and each other one does.
+    ensures same { IfOk result
+        (λ t. cells delta.now.dim delta.now.rows ≡ [] → figure_of t ≡ figure_of own.now) }
+    ensures moves { IfOk result
+        (λ t. ¬ (cells delta.now.dim delta.now.rows ≡ [])
+        → same_figure (figure_of own.now) (figure_of t) ≡ false) }
+{
+    let made = own.xor(alloc, delta.rows())?;
+    Ok(made)
+}
+
+/// A Boolean of two solids, made anew. Takes memory for the rows of both, and for the answer.
+pub fn combine(alloc: Global, op: Op2, a: &Tiles, b: &Tiles) -> Result<Solid, NoMemory>
+    requires { b.now.dim ≡ a.now.dim }
+    ensures value { IfOk result
+        (λ s. figure_of s ≡ combine_of op (figure_of a.now) (figure_of b.now)) }
+    ensures dim { IfOk result (λ s. s.dim ≡ a.now.dim) }
+{
+    let left = a.to_rows(alloc)?;
+    let right = b.to_rows(alloc)?;
+    let made = evm_boolean::combine(alloc, op, left.rows(), right.rows())?;
+    Ok(made)
+}
+
+/// The change of a Boolean whose operands change by `da` and `db`, looked for near the two.
+pub fn change(
+    alloc: Global,
+    op: Op2,
+    a: &Tiles,
+    da: &Solid,
+    b: &Tiles,
+    db: &Solid,
+) -> Result<Solid, NoMemory>
+    requires other { b.now.dim ≡ a.now.dim }
+    requires left { da.now.dim ≡ a.now.dim }
+    requires right { db.now.dim ≡ a.now.dim }
+    ensures carries { IfOk result
+        (λ d. xor_of (combine_of op (figure_of a.now) (figure_of b.now)) (figure_of d)
+        ≡ combine_of op (xor_of (figure_of a.now) (figure_of da.now))
+        (xor_of (figure_of b.now) (figure_of db.now))) }
+    ensures dim { IfOk result (λ d. d.dim ≡ a.now.dim) }
+{
+    let made = evm_delta::delta2(alloc, op, a, da.rows(), b, db.rows())?;
+    Ok(made)
+}
