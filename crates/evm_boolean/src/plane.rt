@@ -124,20 +124,6 @@ fn sweep_planes(
     Ok(Solid::from_rows(2, out))
 }
 
-// The same view, of rows that are `width` wide. Where the compiler knows `width`, it knows from here on where a row stands.
-#[inline(always)]
-fn of_width<'a>(width: usize, a: Rows<'a>) -> Rows<'a>
-    requires width { a.width ≡ width }
-    requires skip { a.skip ≡ 0 }
-    ensures { vertices_of result ≡ vertices_of a.entry }
-{
-    Rows {
-        flat: a.flat,
-        width,
-        skip: 0,
-    }
-}
-
 // The Boolean of two views of dimension 2, as `combine_planes`, compiled apart for each operation.
 #[inline(always)]
 fn combine_by_op(
@@ -181,7 +167,7 @@ pub fn combine_planes(
         (vertices_of b.entry).rows) }
 {
     if a.skip == 0 && b.skip == 0 {
-        return combine_by_op(alloc, op, of_width(2, a), of_width(2, b), room, rooms);
+        return combine_by_op(alloc, op, a.of_width(2), b.of_width(2), room, rooms);
     }
     sweep_planes(alloc, op, a, b, room, rooms)
 }

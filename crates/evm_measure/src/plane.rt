@@ -94,20 +94,6 @@ fn sweep_plane(alloc: Global, a: Rows<'_>, rooms: &mut Rooms) -> Result<Measures
     })
 }
 
-// The same view, of rows that are `width` wide. Where the compiler knows `width`, it knows from here on where a row stands.
-#[inline(always)]
-fn of_width<'a>(width: usize, a: Rows<'a>) -> Rows<'a>
-    requires width { a.width ≡ width }
-    requires skip { a.skip ≡ 0 }
-    ensures { vertices_of result ≡ vertices_of a.entry }
-{
-    Rows {
-        flat: a.flat,
-        width,
-        skip: 0,
-    }
-}
-
 /// The measures of a view of dimension 2. Holds two of its sections, and takes memory where the rooms are too small for them.
 /// The one error is want of memory.
 pub fn measure_plane(alloc: Global, a: Rows<'_>, rooms: &mut Rooms) -> Result<Measures, NoMemory>
@@ -117,7 +103,7 @@ pub fn measure_plane(alloc: Global, a: Rows<'_>, rooms: &mut Rooms) -> Result<Me
         (λ m. m.boundary ≡ boundary 2 (cells 2 (vertices_of a.entry).rows)) }
 {
     if a.skip == 0 {
-        return sweep_plane(alloc, of_width(2, a), rooms);
+        return sweep_plane(alloc, a.of_width(2), rooms);
     }
     sweep_plane(alloc, a, rooms)
 }

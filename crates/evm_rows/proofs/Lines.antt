@@ -181,60 +181,60 @@ apart_rows i first G row rest a d =
     rest u)
 
 -- the rows of the first n numbers and of the rest
-pub rows_parted : (flat later : List ℤ) (w n : ℕ) → 0 < w → n % w ≡ 0 → n ≤ length flat → later ≡ drop n flat → rows_of flat w 0 ≡ rows_of (take n flat) w 0 ++ rows_of later w 0
-rows_parted flat later w n wide steps within e =
+pub rows_parted : (flat later : List ℤ) (w s n : ℕ) → 0 < w → n % w ≡ 0 → n ≤ length flat → later ≡ drop n flat → rows_of flat w s ≡ rows_of (take n flat) w s ++ rows_of later w s
+rows_parted flat later w s n wide steps within e =
     let front : length (take n flat) % w ≡ 0 = ap (λ (k : ℕ). k % w) (length-take-le n flat within) ∙ steps in
-    ap (λ zs. rows_of zs w 0) (sym (take-append-drop n flat)) ∙ rows_of-append (take n flat) (drop n flat) w 0 wide front
-    ∙ ap (λ zs. rows_of (take n flat) w 0 ++ rows_of zs w 0) (sym e)
+    ap (λ zs. rows_of zs w s) (sym (take-append-drop n flat)) ∙ rows_of-append (take n flat) (drop n flat) w s wide front
+    ∙ ap (λ zs. rows_of (take n flat) w s ++ rows_of zs w s) (sym e)
 
 -- a group begins with the first row
-pub front_first : (i w : ℕ) (flat first head : List ℤ) → 0 < length flat → 0 < w → length flat % w ≡ 0 → first ≡ take w flat → head ≡ take i first
-    → list_all (λ p. same (take i p) head) (rows_of (take w flat) w 0) ≡ true
-front_first i w flat first head some wide whole f h =
+pub front_first : (i w s : ℕ) (flat first head : List ℤ) → 0 < length flat → 0 < w → length flat % w ≡ 0 → first ≡ drop s (take w flat) → head ≡ take i first
+    → list_all (λ p. same (take i p) head) (rows_of (take w flat) w s) ≡ true
+front_first i w s flat first head some wide whole f h =
     let long : length (take w flat) ≡ w = length-take-le w flat (whole-first (length flat) w some whole) in
-    ap (list_all (λ p. same (take i p) head)) (rows_of-single (take w flat) w 0 wide long)
-    ∙ and_both (same (take i (take w flat)) head) true (ap (λ z. same (take i z) head) (sym f) ∙ ap (same (take i first)) h ∙ strict_places.itself (take i first)) refl
+    ap (list_all (λ p. same (take i p) head)) (rows_of-single (take w flat) w s wide long)
+    ∙ and_both (same (take i (drop s (take w flat))) head) true (ap (λ z. same (take i z) head) (sym f) ∙ ap (same (take i first)) h ∙ strict_places.itself (take i first)) refl
 
 -- and grows by a row with the same first numbers
-pub front_more : (i w n : ℕ) (flat later row start head : List ℤ) → n + length later ≡ length flat → 0 < w → n % w ≡ 0 → 0 < length later → length later % w ≡ 0 → later ≡ drop n flat
-    → row ≡ take w later → start ≡ take i row → true ≡ same start head
-    → list_all (λ p. same (take i p) head) (rows_of (take n flat) w 0) ≡ true → list_all (λ p. same (take i p) head) (rows_of (take (n + w) flat) w 0) ≡ true
-front_more i w n flat later row start head counted wide steps some whole place r s alike so_far =
+pub front_more : (i w s n : ℕ) (flat later row start head : List ℤ) → n + length later ≡ length flat → 0 < w → n % w ≡ 0 → 0 < length later → length later % w ≡ 0 → later ≡ drop n flat
+    → row ≡ drop s (take w later) → start ≡ take i row → true ≡ same start head
+    → list_all (λ p. same (take i p) head) (rows_of (take n flat) w s) ≡ true → list_all (λ p. same (take i p) head) (rows_of (take (n + w) flat) w s) ≡ true
+front_more i w s n flat later row start head counted wide steps some whole place r st alike so_far =
     let front : length (take n flat) % w ≡ 0 = ap (λ (k : ℕ). k % w) (length-take-le n flat (omega arith)) ∙ steps in
     let long : length (take w later) ≡ w = length-take-le w later (whole-first (length later) w some whole) in
     let joined : take (n + w) flat ≡ take n flat ++ take w later = take-add n w flat ∙ ap (λ zs. take n flat ++ take w zs) (sym place) in
-    let same_start : same (take i (take w later)) head ≡ true = ap (λ z. same z head) (ap (take i) (sym r) ∙ sym s) ∙ sym alike in
-    ap (list_all (λ p. same (take i p) head)) (ap (λ zs. rows_of zs w 0) joined ∙ rows_of-append (take n flat) (take w later) w 0 wide front
-    ∙ ap (λ rs. rows_of (take n flat) w 0 ++ rs) (rows_of-single (take w later) w 0 wide long))
-    ∙ all-append (λ p. same (take i p) head) (rows_of (take n flat) w 0) (take w later ∷ [])
-    ∙ and_both (list_all (λ p. same (take i p) head) (rows_of (take n flat) w 0)) (same (take i (take w later)) head && true) so_far (and_both (same (take i (take w later)) head) true same_start refl)
+    let same_start : same (take i (drop s (take w later))) head ≡ true = ap (λ z. same z head) (ap (take i) (sym r) ∙ sym st) ∙ sym alike in
+    ap (list_all (λ p. same (take i p) head)) (ap (λ zs. rows_of zs w s) joined ∙ rows_of-append (take n flat) (take w later) w s wide front
+    ∙ ap (λ rs. rows_of (take n flat) w s ++ rs) (rows_of-single (take w later) w s wide long))
+    ∙ all-append (λ p. same (take i p) head) (rows_of (take n flat) w s) (drop s (take w later) ∷ [])
+    ∙ and_both (list_all (λ p. same (take i p) head) (rows_of (take n flat) w s)) (same (take i (drop s (take w later))) head && true) so_far (and_both (same (take i (drop s (take w later))) head) true same_start refl)
 
 -- until no row is left or the next has others
-pub front_done : (i w n : ℕ) (flat group later first head : List ℤ) → 0 < n → n + length later ≡ length flat → i < w → n % w ≡ 0 → length flat % w ≡ 0 → group ≡ take n flat → later ≡ drop n flat
-    → ascending (rows_of flat w 0) ≡ true → first ≡ take w flat → head ≡ take i first
-    → list_all (λ p. same (take i p) head) (rows_of (take n flat) w 0) ≡ true
-    → (rows_of later w 0 ≡ []) ⊎ ((row : List ℤ) × (rest : List (List ℤ)) × (rows_of later w 0 ≡ row ∷ rest) × (false ≡ same (take i row) head))
-    → IsFrontGroup i (rows_of flat w 0) (rows_of group w 0) (rows_of later w 0)
-front_done i w n flat group later first head some counted deep steps whole gr place asc f hd alike end =
+pub front_done : (i w s n : ℕ) (flat group later first head : List ℤ) → 0 < n → n + length later ≡ length flat → s + i < w → n % w ≡ 0 → length flat % w ≡ 0 → group ≡ take n flat → later ≡ drop n flat
+    → ascending (rows_of flat w s) ≡ true → first ≡ drop s (take w flat) → head ≡ take i first
+    → list_all (λ p. same (take i p) head) (rows_of (take n flat) w s) ≡ true
+    → (rows_of later w s ≡ []) ⊎ ((row : List ℤ) × (rest : List (List ℤ)) × (rows_of later w s ≡ row ∷ rest) × (false ≡ same (take i row) head))
+    → IsFrontGroup i (rows_of flat w s) (rows_of group w s) (rows_of later w s)
+front_done i w s n flat group later first head some counted deep steps whole gr place asc f hd alike end =
     let wide : 0 < w = omega arith in
     let within : w ≤ length flat = whole-first (length flat) w (omega arith) whole in
-    let G = rows_of (take n flat) w 0 in
-    let is : rows_of group w 0 ≡ G = ap (λ zs. rows_of zs w 0) gr in
-    let parted : rows_of flat w 0 ≡ G ++ rows_of later w 0 = rows_parted flat later w n wide steps (omega arith) place in
-    let heads : head_of i (rows_of flat w 0) ≡ take i (take w flat) = ap (head_of i) (rows_of-cons flat w 0 (omega arith) wide) in
-    let head_is : head ≡ head_of i (rows_of flat w 0) = hd ∙ ap (take i) f ∙ sym heads in
-    let begins : G ≡ take w (take n flat) ∷ rows_of (drop w (take n flat)) w 0 = rows_of-cons (take n flat) w 0 (omega (arith, length-take-le n flat (omega arith))) wide in
+    let G = rows_of (take n flat) w s in
+    let is : rows_of group w s ≡ G = ap (λ zs. rows_of zs w s) gr in
+    let parted : rows_of flat w s ≡ G ++ rows_of later w s = rows_parted flat later w s n wide steps (omega arith) place in
+    let heads : head_of i (rows_of flat w s) ≡ take i (drop s (take w flat)) = ap (head_of i) (rows_of-cons flat w s (omega arith) wide) in
+    let head_is : head ≡ head_of i (rows_of flat w s) = hd ∙ ap (take i) f ∙ sym heads in
+    let begins : G ≡ drop s (take w (take n flat)) ∷ rows_of (drop w (take n flat)) w s = rows_of-cons (take n flat) w s (omega (arith, length-take-le n flat (omega arith))) wide in
     record {
-      rows = parted ∙ ap (λ rs. rs ++ rows_of later w 0) (sym is);
-      deep = ap length heads ∙ length-take-le i (take w flat) (omega (arith, length-take-le w flat within));
+      rows = parted ∙ ap (λ rs. rs ++ rows_of later w s) (sym is);
+      deep = ap length heads ∙ length-take-le i (drop s (take w flat)) (omega (arith, length-take-le w flat within, length-drop s (take w flat)));
       alike = ap₂ (λ (z : List ℤ) (rs : List (List ℤ)). list_all (λ p. same (take i p) z) rs) (sym head_is) is ∙ alike;
       apart = ⊎_elim
-          (λ e. ap (list_all (λ p. not (same (take i p) (head_of i (rows_of flat w 0))))) e)
+          (λ e. ap (list_all (λ p. not (same (take i p) (head_of i (rows_of flat w s))))) e)
           (λ v. let (row, rest, e, d) = v in
           let other = drop w (take n flat) in
-          let one : head_of i (rows_of flat w 0) ≡ take i (take w (take n flat)) = ap (head_of i) (parted ∙ ap (λ rs. rs ++ rows_of later w 0) begins) in
+          let one : head_of i (rows_of flat w s) ≡ take i (drop s (take w (take n flat))) = ap (head_of i) (parted ∙ ap (λ rs. rs ++ rows_of later w s) begins) in
           ap₂ (λ (z : List ℤ) (rs : List (List ℤ)). list_all (λ p. not (same (take i p) z)) rs) one e
-          ∙ apart_rows i (take w (take n flat)) (rows_of other w 0) row rest
+          ∙ apart_rows i (drop s (take w (take n flat))) (rows_of other w s) row rest
           (ap ascending (sym (parted ∙ ap₂ (λ (us vs : List (List ℤ)). us ++ vs) begins e)) ∙ asc)
           (ap (same (take i row)) (sym (head_is ∙ one)) ∙ sym d))
           end;

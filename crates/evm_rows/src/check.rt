@@ -1,16 +1,17 @@
 // The test whether flat numbers are the rows of a vertex list.
 ghost use Rattle.std.specs.Prelude.{◌≡◌, ℕ, ◌++◌, ◌-◌, ◌%◌, ◌<◌, ◌≤◌, ◌⊎◌, true, length, IfOk, IfErr, IsOk, IsErrOf, MatchBool, MatchOption};
 ghost use Rattle.std.specs.List.{list_all};
-ghost use Rattle.evm_cells.specs.Places.{same, before, ascending};
+ghost use Rattle.evm_cells.specs.Places.{before, ascending};
 ghost use Rattle.evm_cells.specs.Limits.{is_point};
 ghost use Rattle.evm_cells.specs.Vertices.{IsEven, IsVertexList};
 ghost use Rattle.evm_rows.specs.Rows.{rows_of, flat_of, merge_xor};
 ghost use Rattle.evm_rows.specs.Check.{IsEvenOn, HasOddLine, IsFirstOut, IsFirstFall, IsLeastOdd, IsRefusal};
-ghost use Rattle.evm_rows.specs.Groups.{HasOddPlace, IsOddPart, IsPaired, IsFrontGroup};
+ghost use Rattle.evm_rows.specs.Groups.{HasOddPlace, IsOddPart, IsPaired};
 ghost use Rattle.evm_rows.specs.declared.check.RowError.{RowError};
 ghost use Rattle.evm_rows.specs.declared.check.RowError.TheVariants.{NoMemory};
 
-use crate::merge::{extend_by_row, extend_by_rows, row_order, split_row};
+use crate::groups::first_group;
+use crate::merge::{extend_by_rows, extend_by_xor, split_row};
 use crate::solid::{Solid, limit};
 use std::alloc::{AllocError, AllocFailed, Global};
 use std::cmp::Ordering;
@@ -66,13 +67,6 @@ fn comes_before(p: &[i32], q: &[i32]) -> bool
     p.cmp(q) == Ordering::Less
 }
 
-// Whether p and q are the same place.
-fn are_same(p: &[i32], q: &[i32]) -> bool
-    ensures { result ≡ same p.now q.now }
-{
-    p == q
-}
-
 // The first row with a coordinate past the limits.
 fn first_outside(flat: &[i32], width: usize) -> Option<usize>
     requires some { 0 < width }
@@ -119,35 +113,6 @@ fn first_unordered(flat: &[i32], width: usize, skip: usize) -> Option<usize>
     None
 }
 
-// The first rows that share their first `front` numbers, and the rows after them.
-fn front_group(flat: &[i32], width: usize, front: usize) -> (&[i32], &[i32])
-    requires some { 0 < length flat.now }
-    requires axis { front < width }
-    requires narrow { width ≤ 6 }
-    requires whole { length flat.now % width ≡ 0 }
-    requires ascends { ascending (rows_of flat.now width 0) ≡ true }
-    ensures group { IsFrontGroup front (rows_of flat.now width 0) (rows_of result.0.now width 0)
-        (rows_of result.1.now width 0) }
-    ensures group_whole { length result.0.now % width ≡ 0 }
-    ensures whole { length result.1.now % width ≡ 0 }
-    ensures shorter { length result.1.now < length flat.now }
-{
-    let (first, mut later) = split_row(flat, width, 0);
-    let (head, _) = first.split_at(front);
-    let mut taken = width;
-    while later.len() != 0 {
-        let (row, rest) = split_row(later, width, 0);
-        let (start, _) = row.split_at(front);
-        if !are_same(start, head) {
-            break;
-        }
-        later = rest;
-        taken += width;
-    }
-    let (group, _) = flat.split_at(taken);
-    (group, later)
-}
-
 // The two halves of rows. Of an odd number of rows the second has one more.
 fn halves(flat: &[i32], width: usize) -> (&[i32], &[i32])
     requires some { 0 < width }
@@ -175,7 +140,6 @@ fn rests(alloc: Global, flat: &[i32], width: usize, skip: usize) -> Result<Vec<i
 }
 
 // The rows that just one of two ascending lists has, by one merge.
-#[inline(always)]
 fn merged(alloc: Global, a: &[i32], b: &[i32], width: usize) -> Result<Vec<i32>, AllocError>
     requires some { 0 < width }
     requires narrow { width ≤ 6 }
@@ -185,47 +149,8 @@ fn merged(alloc: Global, a: &[i32], b: &[i32], width: usize) -> Result<Vec<i32>,
         ≡ flat_of (merge_xor (rows_of a.now width 0) (rows_of b.now width 0))) }
 {
     let mut out = Vec::with_capacity(alloc, a.len().saturating_add(b.len()))?;
-    let mut first = a;
-    let mut second = b;
-    while first.len() != 0 && second.len() != 0 {
-        let (x, after_x) = split_row(first, width, 0);
-        let (y, after_y) = split_row(second, width, 0);
-        match row_order(x, y) {
-            Ordering::Less => {
-                extend_by_row(&mut out, None, x)?;
-                first = after_x;
-            }
-            Ordering::Equal => {
-                first = after_x;
-                second = after_y;
-            }
-            Ordering::Greater => {
-                extend_by_row(&mut out, None, y)?;
-                second = after_y;
-            }
-        }
-    }
-    out.extend_from_slice(first)?;
-    out.extend_from_slice(second)?;
+    extend_by_xor(&mut out, None, width, a, 0, b, 0)?;
     Ok(out)
-}
-
-// As `merged`, compiled apart for rows of 1 to 4 numbers: there a row is compared and copied with no call.
-fn merged_rows(alloc: Global, a: &[i32], b: &[i32], width: usize) -> Result<Vec<i32>, AllocError>
-    requires some { 0 < width }
-    requires narrow { width ≤ 6 }
-    requires a_whole { length a.now % width ≡ 0 }
-    requires b_whole { length b.now % width ≡ 0 }
-    ensures { IfOk result (λ v. v.items
-        ≡ flat_of (merge_xor (rows_of a.now width 0) (rows_of b.now width 0))) }
-{
-    match width {
-        1 => merged(alloc, a, b, 1),
-        2 => merged(alloc, a, b, 2),
-        3 => merged(alloc, a, b, 3),
-        4 => merged(alloc, a, b, 4),
-        _ => merged(alloc, a, b, width),
-    }
 }
 
 // The places that occur an odd number of times among the rows without their first `skip` numbers, ascending. Rows that
@@ -250,7 +175,7 @@ fn odd_places(
     let (first, second) = halves(flat, width);
     let a = odd_places(alloc, first, width, skip)?;
     let b = odd_places(alloc, second, width, skip)?;
-    merged_rows(alloc, a.as_slice(), b.as_slice(), width - skip)
+    merged(alloc, a.as_slice(), b.as_slice(), width - skip)
 }
 
 // Whether some place occurs an odd number of times among the rows without their first `skip` numbers. Where nothing is
@@ -283,7 +208,7 @@ fn has_odd_line(alloc: Global, flat: &[i32], width: usize, front: usize) -> Resu
 {
     let mut rest = flat;
     while rest.len() != 0 {
-        let (group, later) = front_group(rest, width, front);
+        let (group, later) = first_group(rest, width, 0, front);
         if has_odd_place(alloc, group, width, front + 1)? {
             return Ok(true);
         }

@@ -3,8 +3,8 @@ ghost use Rattle.std.specs.Prelude.{◌≡◌, ℕ, ◌+◌, ◌-◌, ◌%◌, �
 ghost use Rattle.evm_cells.specs.Places.{has};
 ghost use Rattle.evm_cells.specs.Booleans.{xor, xor_cells};
 ghost use Rattle.evm_cells.specs.Vertices.{cells};
-ghost use Rattle.evm_rows.specs.Rows.{rows_of, flat_of, row_cmp, raised, xor_rows};
-ghost use Rattle.evm_rows.specs.View.{vertices_of, merge_of, xor_of};
+ghost use Rattle.evm_rows.specs.Rows.{rows_of, flat_of, row_cmp, raised, merge_xor, xor_rows};
+ghost use Rattle.evm_rows.specs.View.{vertices_of, xor_of};
 
 use crate::solid::{NoMemory, Rows, Solid};
 use std::alloc::{AllocError, Global};
@@ -51,7 +51,7 @@ pub fn append_rows(
     Ok(grown)
 }
 
-// The order of two rows of one length.
+/// The order of two rows of one length. Takes no memory.
 #[inline(always)]
 pub(crate) fn row_order(x: &[i32], y: &[i32]) -> Ordering
     requires { length x.now ≡ length y.now }
@@ -65,7 +65,8 @@ pub(crate) fn row_order(x: &[i32], y: &[i32]) -> Ordering
     Ordering::Equal
 }
 
-// Appends a row, with the height before it if there is one.
+/// Appends a row, with the height before it if there is one. Takes memory only where `out` has no room left; the one error
+/// is want of memory.
 #[inline(always)]
 pub(crate) fn extend_by_row(
     out: &mut Vec<i32>,
@@ -82,7 +83,8 @@ pub(crate) fn extend_by_row(
     Ok(())
 }
 
-// Appends each row of flat numbers, with the height before it if there is one.
+/// Appends each row of flat numbers, with the height before it if there is one: each run of `width` numbers without its
+/// first `skip`. Takes memory only where `out` has no room left; the one error is want of memory.
 #[inline(always)]
 pub(crate) fn extend_by_rows(
     out: &mut Vec<i32>,
@@ -110,23 +112,34 @@ pub(crate) fn extend_by_rows(
     Ok(())
 }
 
-// Appends the rows that just one of two views has, each with the height before it if there is one.
+// Appends the rows that just one of two ascending lists has, each with the height before it if there is one, by one merge.
+// A row has `dim` numbers behind those that are passed over, `a_skip` in `a` and `b_skip` in `b`.
 #[inline(always)]
 fn extend_by_merge(
     out: &mut Vec<i32>,
     height: Option<i32>,
-    a: Rows<'_>,
-    b: Rows<'_>,
+    dim: usize,
+    a: &[i32],
+    a_skip: usize,
+    b: &[i32],
+    b_skip: usize,
 ) -> Result<(), AllocError>
-    requires { (vertices_of a).dim ≡ (vertices_of b).dim }
+    requires some { 0 < dim }
+    requires a_narrow { dim + a_skip ≤ 6 }
+    requires b_narrow { dim + b_skip ≤ 6 }
+    requires a_whole { length a.now % (dim + a_skip) ≡ 0 }
+    requires b_whole { length b.now % (dim + b_skip) ≡ 0 }
     ensures { OnOk result
-        (out.new.items ≡ out.old.items ++ flat_of (raised height (merge_of a.entry b.entry))) }
+        (out.new.items ≡ out.old.items ++ flat_of (raised height
+        (merge_xor (rows_of a.now (dim + a_skip) a_skip) (rows_of b.now (dim + b_skip) b_skip)))) }
 {
-    let mut left = a.flat;
-    let mut right = b.flat;
+    let a_width = dim + a_skip;
+    let b_width = dim + b_skip;
+    let mut left = a;
+    let mut right = b;
     while left.len() != 0 && right.len() != 0 {
-        let (x, after_x) = split_row(left, a.width, a.skip);
-        let (y, after_y) = split_row(right, b.width, b.skip);
+        let (x, after_x) = split_row(left, a_width, a_skip);
+        let (y, after_y) = split_row(right, b_width, b_skip);
         match row_order(x, y) {
             Ordering::Less => {
                 extend_by_row(out, height, x)?;
@@ -142,42 +155,42 @@ fn extend_by_merge(
             }
         }
     }
-    extend_by_rows(out, height, left, a.width, a.skip)?;
-    extend_by_rows(out, height, right, b.width, b.skip)?;
+    extend_by_rows(out, height, left, a_width, a_skip)?;
+    extend_by_rows(out, height, right, b_width, b_skip)?;
     Ok(())
 }
 
-// The same view. Where the compiler knows `dim`, it knows from here on how long a row is.
+/// Appends the rows that just one of two ascending lists has, each with the height before it if there is one, by one merge.
+/// A row has `dim` numbers behind those that are passed over, `a_skip` in `a` and `b_skip` in `b`.
+///
+/// It is compiled apart for each `dim` from 1 to 5: there a row is compared and copied with no call. Takes memory only where
+/// `out` has no room left. The one error is want of memory.
 #[inline(always)]
-fn of_dim<'a>(dim: usize, a: Rows<'a>) -> Rows<'a>
-    requires { (vertices_of a).dim ≡ dim }
-    ensures { vertices_of result ≡ vertices_of a.entry }
-{
-    Rows {
-        flat: a.flat,
-        width: dim + a.skip,
-        skip: a.skip,
-    }
-}
-
-// As `extend_by_merge`, compiled apart for each dimension from 2 to 5: there a row is compared and copied with no call.
-#[inline(always)]
-fn extend_by_xor(
+pub(crate) fn extend_by_xor(
     out: &mut Vec<i32>,
     height: Option<i32>,
-    a: Rows<'_>,
-    b: Rows<'_>,
+    dim: usize,
+    a: &[i32],
+    a_skip: usize,
+    b: &[i32],
+    b_skip: usize,
 ) -> Result<(), AllocError>
-    requires { (vertices_of a).dim ≡ (vertices_of b).dim }
+    requires some { 0 < dim }
+    requires a_narrow { dim + a_skip ≤ 6 }
+    requires b_narrow { dim + b_skip ≤ 6 }
+    requires a_whole { length a.now % (dim + a_skip) ≡ 0 }
+    requires b_whole { length b.now % (dim + b_skip) ≡ 0 }
     ensures { OnOk result
-        (out.new.items ≡ out.old.items ++ flat_of (raised height (merge_of a.entry b.entry))) }
+        (out.new.items ≡ out.old.items ++ flat_of (raised height
+        (merge_xor (rows_of a.now (dim + a_skip) a_skip) (rows_of b.now (dim + b_skip) b_skip)))) }
 {
-    match a.dim() {
-        2 => extend_by_merge(out, height, of_dim(2, a), of_dim(2, b)),
-        3 => extend_by_merge(out, height, of_dim(3, a), of_dim(3, b)),
-        4 => extend_by_merge(out, height, of_dim(4, a), of_dim(4, b)),
-        5 => extend_by_merge(out, height, of_dim(5, a), of_dim(5, b)),
-        _ => extend_by_merge(out, height, a, b),
+    match dim {
+        1 => extend_by_merge(out, height, 1, a, a_skip, b, b_skip),
+        2 => extend_by_merge(out, height, 2, a, a_skip, b, b_skip),
+        3 => extend_by_merge(out, height, 3, a, a_skip, b, b_skip),
+        4 => extend_by_merge(out, height, 4, a, a_skip, b, b_skip),
+        5 => extend_by_merge(out, height, 5, a, a_skip, b, b_skip),
+        _ => extend_by_merge(out, height, dim, a, a_skip, b, b_skip),
     }
 }
 
@@ -195,11 +208,12 @@ pub fn append_xor(
     ensures { IfOk result
         (λ v. v.items ≡ out.items ++ flat_of (raised height (xor_of a.entry b.entry))) }
 {
+    let dim = a.dim();
     let mut grown = out;
     // The merge is compiled apart for a height and for none, so that no row asks which it is.
     match height {
-        None => extend_by_xor(&mut grown, None, a, b)?,
-        Some(h) => extend_by_xor(&mut grown, Some(h), a, b)?,
+        None => extend_by_xor(&mut grown, None, dim, a.flat, a.skip, b.flat, b.skip)?,
+        Some(h) => extend_by_xor(&mut grown, Some(h), dim, a.flat, a.skip, b.flat, b.skip)?,
     }
     Ok(grown)
 }

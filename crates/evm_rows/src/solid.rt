@@ -84,6 +84,21 @@ impl<'a> Rows<'a> {
     {
         self.width - self.skip
     }
+
+    /// The same view, of rows that are `width` wide. Where the compiler knows `width`, it knows from here on where a row
+    /// stands. Takes no memory.
+    #[inline(always)]
+    pub fn of_width(self, width: usize) -> Rows<'a>
+        requires width { self.width ≡ width }
+        requires skip { self.skip ≡ 0 }
+        ensures { vertices_of result ≡ vertices_of self.entry }
+    {
+        Rows {
+            flat: self.flat,
+            width,
+            skip: 0,
+        }
+    }
 }
 
 impl Rows<'_> {

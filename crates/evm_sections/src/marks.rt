@@ -4,7 +4,7 @@ ghost use Rattle.evm_cells.specs.Vertices.{cells};
 ghost use Rattle.evm_rows.specs.View.{vertices_of};
 ghost use Rattle.evm_sections.specs.Couplets.{couplets_of, couplets_in, first_height, AreSingle, rest_of};
 
-use crate::walk::first_of;
+use crate::walk::height_of;
 use evm_rows::{Rows, split_row};
 use std::marker::Model;
 
@@ -49,11 +49,7 @@ impl<'a> Marks<'a> {
     pub fn height(&self) -> Option<i32>
         ensures { result ≡ first_height self.now }
     {
-        if self.flat.len() == 0 {
-            return None;
-        }
-        let (row, _) = split_row(self.flat, self.width, self.skip);
-        Some(first_of(row))
+        height_of(self.flat, self.width, self.skip)
     }
 
     /// Goes past the next row, if there is one. Takes no memory.

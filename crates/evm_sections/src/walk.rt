@@ -5,7 +5,7 @@ ghost use Rattle.evm_rows.specs.Rows.{rows_of, ascends};
 ghost use Rattle.evm_rows.specs.View.{vertices_of};
 ghost use Rattle.evm_sections.specs.Couplets.{couplets_of, couplets_in, first_height};
 
-use evm_rows::{Rows, split_row};
+use evm_rows::{Rows, first_group, split_row};
 use std::marker::Model;
 
 /// A walk over the couplets of a view, from the lowest cut of the first axis up. Its meaning is the dimension of the
@@ -61,11 +61,7 @@ impl<'a> Walk<'a> {
     pub fn height(&self) -> Option<i32>
         ensures { result ≡ first_height self.now.left }
     {
-        if self.flat.len() == 0 {
-            return None;
-        }
-        let (row, _) = split_row(self.flat, self.width, self.skip);
-        Some(first_of(row))
+        height_of(self.flat, self.width, self.skip)
     }
 
     /// The next couplet with its height, or `None` exactly where all were given. The couplet is a stretch of the rows of
@@ -107,19 +103,24 @@ fn first_stretch(flat: &[i32], width: usize, skip: usize) -> (i32, &[i32], &[i32
     ensures whole { length result.2.now % width ≡ 0 }
     ensures ascending { IsTrue (ascends (rows_of result.2.now width skip)) }
 {
-    let (first, mut later) = split_row(flat, width, skip);
-    let height = first_of(first);
-    let mut taken = width;
-    while later.len() != 0 {
-        let (next, rest) = split_row(later, width, skip);
-        if first_of(next) != height {
-            break;
-        }
-        later = rest;
-        taken += width;
+    let (first, _) = split_row(flat, width, skip);
+    let (stretch, later) = first_group(flat, width, skip, 1);
+    (first_of(first), stretch, later)
+}
+
+/// The first coordinate of the first row, or `None` where there are no rows. Takes no memory.
+#[inline(always)]
+pub(crate) fn height_of(flat: &[i32], width: usize, skip: usize) -> Option<i32>
+    requires left { skip < width }
+    requires narrow { width ≤ 6 }
+    requires whole { length flat.now % width ≡ 0 }
+    ensures { result ≡ first_height (couplets_of (rows_of flat.now width skip)) }
+{
+    if flat.len() == 0 {
+        return None;
     }
-    let (stretch, _) = flat.split_at(taken);
-    (height, stretch, later)
+    let (row, _) = split_row(flat, width, skip);
+    Some(first_of(row))
 }
 
 /// The first coordinate of a row, which has one. Takes no memory.

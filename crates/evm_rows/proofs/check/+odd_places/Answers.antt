@@ -24,7 +24,7 @@ returns-clause-whole t c =
     let n = c.args.width - c.args.skip in
     let first : length c.as_slice.result.now % n ≡ 0 = ap (λ (zs : List ℤ). length zs % n) c.as_slice.ensures.value ∙ c.in_ok-a.ensures.whole in
     let second : length c.as_slice-2.result.now % n ≡ 0 = ap (λ (zs : List ℤ). length zs % n) c.as_slice-2.ensures.value ∙ c.in_ok-b.ensures.whole in
-    IfOk-weaker _ _ _ (λ v. merged_whole c.as_slice.result.now c.as_slice-2.result.now v.items n (omega arith) first second) c.merged_rows.ensures
+    IfOk-weaker _ _ _ (λ v. merged_whole c.as_slice.result.now c.as_slice-2.result.now v.items n (omega arith) first second) c.merged.ensures
 
 pub returns-clause-odd : goal.returns-clause-odd
 returns-clause-odd t c =
@@ -38,4 +38,4 @@ returns-clause-odd t c =
     let left : IsOddPart (rows_of c.halves.result.0.now w s) (rows_of a n 0) = rw c.as_slice.ensures.value c.in_ok-a.ensures.odd in
     let right : IsOddPart (rows_of c.halves.result.1.now w s) (rows_of b n 0) = rw c.as_slice-2.ensures.value c.in_ok-b.ensures.odd in
     IfOk-weaker _ _ _ (λ v. merged_part c.args.flat.now c.halves.result.0.now c.halves.result.1.now a b v.items w s n (omega arith) (omega arith)
-    c.halves.ensures.both c.halves.ensures.first_whole first second left right) c.merged_rows.ensures
+    c.halves.ensures.both c.halves.ensures.first_whole first second left right) c.merged.ensures

@@ -6,13 +6,13 @@ use Rattle.evm_rows.proofs.check.has_odd_line.Goals as goal
 
 pub returns-then-branch : goal.returns-then-branch
 returns-then-branch c =
-    odd_line_found c.args.front c.args.width _ c.loop-rest.rest.now _ _ c.loop-rest.invariant.so_far c.front_group.ensures.group (rw c.if-branch.true at c.in_ok-has_odd_place.ensures)
+    odd_line_found c.args.front c.args.width _ c.loop-rest.rest.now _ _ c.loop-rest.invariant.so_far c.first_group.ensures.group (rw c.if-branch.true at c.in_ok-has_odd_place.ensures)
 
 pub loop-rest-preserved : goal.loop-rest-preserved
 loop-rest-preserved c = record {
-  whole = c.front_group.ensures.whole;
-  ascends = asc_left c.args.front _ _ _ c.front_group.ensures.group c.loop-rest.invariant.ascends;
-  so_far = even_so_far c.args.front c.args.width _ c.loop-rest.rest.now _ _ c.loop-rest.invariant.so_far c.front_group.ensures.group (rw c.if-branch.false at c.in_ok-has_odd_place.ensures);
+  whole = c.first_group.ensures.whole;
+  ascends = asc_left c.args.front _ _ _ c.first_group.ensures.group c.loop-rest.invariant.ascends;
+  so_far = even_so_far c.args.front c.args.width _ c.loop-rest.rest.now _ _ c.loop-rest.invariant.so_far c.first_group.ensures.group (rw c.if-branch.false at c.in_ok-has_odd_place.ensures);
 }
 
 pub returns : goal.returns

@@ -1,4 +1,4 @@
-use Rattle.std.proofs.Common.{◌++◌, ap, ◌∙◌, arith}
+use Rattle.std.proofs.Common.{◌+◌, ◌++◌, ap, ◌∙◌, arith}
 use Rattle.evm_rows.specs.Rows.{rows_of, flat_of, raised}
 use Rattle.evm_rows.proofs.RowsLaws.{merge_less, merge_equal, merge_greater, merge_done_left, merge_done_right, rows_of-none}
 use Rattle.evm_rows.proofs.merge.extend_by_merge.Goals as goal
@@ -31,7 +31,7 @@ loop-left-preserved c = record {
 pub returns : goal.returns
 returns c =
     c.in_ok-extend_by_rows-2.ensures
-    ∙ ap (λ o. o ++ flat_of (raised c.args.height (rows_of c.loop-left.right.now c.args.b.width c.args.b.skip))) c.in_ok-extend_by_rows.ensures
+    ∙ ap (λ o. o ++ flat_of (raised c.args.height (rows_of c.loop-left.right.now (c.args.dim + c.args.b_skip) c.args.b_skip))) c.in_ok-extend_by_rows.ensures
     ∙ elim c.loop-left-test.branch [
       | then-loop-left-test+else-right-ne0 w ↦
           merge_done_right _ _ _ _ _ (rows_of-none c.loop-left.right.now _ _ (omega arith)) c.loop-left.invariant.so_far
