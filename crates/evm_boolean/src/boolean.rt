@@ -206,8 +206,10 @@ fn combine_into(
     if dim == 1 {
         return combine_runs(op, a, b, room);
     }
+    let mut out = room.into_flat();
+    out.clear();
     if dim == 2 {
-        return combine_planes(alloc, op, a, b, room, rooms);
+        return combine_planes(alloc, op, a, b, out, rooms);
     }
     let mut left = Walk::of(a);
     let mut right = Walk::of(b);
@@ -216,8 +218,6 @@ fn combine_into(
     let mut below = taken(alloc, rooms, dim - 1);
     let mut spare = taken(alloc, rooms, dim - 1);
     let mut other = taken(alloc, rooms, dim - 1);
-    let mut out = room.into_flat();
-    out.clear();
     while let Some(height) = lower_of(left.height(), right.height()) {
         let (next_a, old_a) = advance(&mut left, height, below_a, spare)?;
         below_a = next_a;

@@ -91,11 +91,12 @@ fn sweep_planes(
     op: Op2,
     a: Rows<'_>,
     b: Rows<'_>,
-    room: Solid,
+    out: Vec<i32>,
     rooms: &mut Vec<Solid>,
 ) -> Result<Solid, NoMemory>
     requires left { (vertices_of a).dim ≡ 2 }
     requires right { (vertices_of b).dim ≡ 2 }
+    requires out { out.items ≡ [] }
     ensures dim { IfOk result (λ s. s.dim ≡ 2) }
     ensures rows { IfOk result
         (λ s. s.rows ≡ combined_rows (fills op) 2 (vertices_of a.entry).rows
@@ -108,8 +109,7 @@ fn sweep_planes(
     let mut line_a = taken_line(alloc, rooms);
     let mut line_b = taken_line(alloc, rooms);
     let mut spare = taken_line(alloc, rooms);
-    let mut out = room.into_flat();
-    out.clear();
+    let mut out = out;
     while let Some(height) = lower_of(left.height(), right.height()) {
         let change_a = couplet_at(&mut left, height, none_a);
         let change_b = couplet_at(&mut right, height, none_b);
@@ -131,43 +131,45 @@ fn combine_by_op(
     op: Op2,
     a: Rows<'_>,
     b: Rows<'_>,
-    room: Solid,
+    out: Vec<i32>,
     rooms: &mut Vec<Solid>,
 ) -> Result<Solid, NoMemory>
     requires left { (vertices_of a).dim ≡ 2 }
     requires right { (vertices_of b).dim ≡ 2 }
+    requires out { out.items ≡ [] }
     ensures dim { IfOk result (λ s. s.dim ≡ 2) }
     ensures rows { IfOk result
         (λ s. s.rows ≡ combined_rows (fills op) 2 (vertices_of a.entry).rows
         (vertices_of b.entry).rows) }
 {
     match op {
-        Op2::Or => sweep_planes(alloc, Op2::Or, a, b, room, rooms),
-        Op2::And => sweep_planes(alloc, Op2::And, a, b, room, rooms),
-        Op2::Sub => sweep_planes(alloc, Op2::Sub, a, b, room, rooms),
-        Op2::Xor => sweep_planes(alloc, Op2::Xor, a, b, room, rooms),
+        Op2::Or => sweep_planes(alloc, Op2::Or, a, b, out, rooms),
+        Op2::And => sweep_planes(alloc, Op2::And, a, b, out, rooms),
+        Op2::Sub => sweep_planes(alloc, Op2::Sub, a, b, out, rooms),
+        Op2::Xor => sweep_planes(alloc, Op2::Xor, a, b, out, rooms),
     }
 }
 
-/// The Boolean of two views of dimension 2, in the room of a solid that is done with. It takes further rooms from `rooms`
-/// and gives them back.
+/// The Boolean of two views of dimension 2, in a list without numbers. It takes further rooms from `rooms` and gives them
+/// back. The one error is want of memory.
 pub fn combine_planes(
     alloc: Global,
     op: Op2,
     a: Rows<'_>,
     b: Rows<'_>,
-    room: Solid,
+    out: Vec<i32>,
     rooms: &mut Vec<Solid>,
 ) -> Result<Solid, NoMemory>
     requires left { (vertices_of a).dim ≡ 2 }
     requires right { (vertices_of b).dim ≡ 2 }
+    requires out { out.items ≡ [] }
     ensures dim { IfOk result (λ s. s.dim ≡ 2) }
     ensures rows { IfOk result
         (λ s. s.rows ≡ combined_rows (fills op) 2 (vertices_of a.entry).rows
         (vertices_of b.entry).rows) }
 {
     if a.skip == 0 && b.skip == 0 {
-        return combine_by_op(alloc, op, a.of_width(2), b.of_width(2), room, rooms);
+        return combine_by_op(alloc, op, a.of_width(2), b.of_width(2), out, rooms);
     }
-    sweep_planes(alloc, op, a, b, room, rooms)
+    sweep_planes(alloc, op, a, b, out, rooms)
 }

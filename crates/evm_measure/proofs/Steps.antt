@@ -1,5 +1,5 @@
 -- The steps of the loops
-use Rattle.std.proofs.Common.{◌≡◌, ℕ, ◌+◌, ◌*◌, ◌^◌, ◌≤◌, Bool, true, false, not, List, [], ◌∷◌, length, ℤ, ◌-ℤ◌, refl, sym, ap, ◌∙◌, arith, Some}
+use Rattle.std.proofs.Common.{◌≡◌, ℕ, ◌+◌, ◌-◌, ◌*◌, ◌^◌, ◌<◌, ◌≤◌, Bool, true, false, not, List, [], ◌∷◌, length, ℤ, ◌-ℤ◌, refl, sym, ap, ◌∙◌, arith, Some}
 use Rattle.std.specs.Prelude.{unsigned_abs}
 use Rattle.evm_cells.specs.Vertices.{cells, IsVertexList}
 use Rattle.evm_cells.specs.Measures.{content}
@@ -11,6 +11,16 @@ use Rattle.evm_sections.proofs.Counting.{line-small}
 use Rattle.evm_sections.specs.Couplets.{first_height, rest_of, AreSingle, mark}
 use Rattle.evm_sections.proofs.Zero.{xor_rows-mark, cells-mark}
 use Rattle.evm_measure.proofs.Sums.{slab_sum}
+
+-- what the loops over couplets keep of the dimensions: those of the section, of the walk and of the view
+pub record IsLevel (section walk n : ℕ) : Type 0 where
+  pub some : 0 < section
+  pub dims : walk ≡ section
+  pub deep : section + 1 ≡ n
+
+-- they begin so for a view of dimension 2 or more
+pub level_start : (n section walk : ℕ) → 1 < n → section ≡ n - 1 → walk + 1 ≡ n → IsLevel section walk n
+level_start n section walk deep s w = record { some = omega arith; dims = omega arith; deep = omega arith }
 
 pub slab_more : (n : ℕ) (low h : ℤ) (s c t : List (List ℤ)) (left later : List (ℤ × List (List ℤ))) (total part all : ℕ) → left ≡ (h, c) ∷ later → part ≡ length (cells n s) → t ≡ xor_rows n s c
     → total + slab_sum content n low s left ≡ all → (total + part * unsigned_abs (h -ℤ low)) + slab_sum content n h t later ≡ all

@@ -2,6 +2,7 @@ use Rattle.std.proofs.Common.{◌≡◌, ◌+◌, ◌-◌, ◌<◌, ◌^◌, len
 use Rattle.evm_cells.specs.Vertices.{cells}
 use Rattle.evm_cells.specs.Measures.{boundary}
 use Rattle.evm_rows.specs.Rows.{rows_of}
+use Rattle.evm_measure.proofs.Steps.{IsLevel}
 use Rattle.evm_measure.proofs.Sums.{slab_sum, face_sum}
 use Rattle.evm_measure.proofs.+boundary_in.Given as goal
 
@@ -10,9 +11,7 @@ decreases-boundary_in l = l.a.width - l.a.skip
 
 abbrev pub invariant-loop-high : goal.invariant-loop-high
 invariant-loop-high l = record {
-  some : 0 < l.section.dim;
-  dims : l.walk.dim ≡ l.section.dim;
-  deep : l.section.dim + 1 ≡ l.fn.a.width - l.fn.a.skip;
+  level : IsLevel l.section.dim l.walk.dim (l.fn.a.width - l.fn.a.skip);
   fits : boundary (l.fn.a.width - l.fn.a.skip) (cells (l.fn.a.width - l.fn.a.skip) (rows_of l.fn.a.flat.now l.fn.a.width l.fn.a.skip)) < 2 ^ 124;
   so_far : l.total + (slab_sum (boundary l.section.dim) l.section.dim l.low l.section.rows l.walk.left + face_sum l.section.dim l.walk.left)
       ≡ boundary (l.fn.a.width - l.fn.a.skip) (cells (l.fn.a.width - l.fn.a.skip) (rows_of l.fn.a.flat.now l.fn.a.width l.fn.a.skip));

@@ -1,7 +1,8 @@
-use Rattle.std.proofs.Common.{◌≡◌, ◌+◌, ◌-◌, ◌<◌, ◌≤◌, ◌^◌, length}
+use Rattle.std.proofs.Common.{◌≡◌, ◌+◌, ◌-◌, ◌≤◌, ◌^◌, length}
 use Rattle.evm_cells.specs.Vertices.{cells}
 use Rattle.evm_cells.specs.Measures.{content}
 use Rattle.evm_rows.specs.Rows.{rows_of}
+use Rattle.evm_measure.proofs.Steps.{IsLevel}
 use Rattle.evm_measure.proofs.Sums.{slab_sum}
 use Rattle.evm_measure.proofs.+content_in.Given as goal
 
@@ -10,9 +11,7 @@ decreases-content_in l = l.a.width - l.a.skip
 
 abbrev pub invariant-loop-high : goal.invariant-loop-high
 invariant-loop-high l = record {
-  some : 0 < l.section.dim;
-  dims : l.walk.dim ≡ l.section.dim;
-  deep : l.section.dim + 1 ≡ l.fn.a.width - l.fn.a.skip;
+  level : IsLevel l.section.dim l.walk.dim (l.fn.a.width - l.fn.a.skip);
   fits : length (cells (l.fn.a.width - l.fn.a.skip) (rows_of l.fn.a.flat.now l.fn.a.width l.fn.a.skip)) ≤ 2 ^ 120;
   so_far : l.total + slab_sum content l.section.dim l.low l.section.rows l.walk.left ≡ length (cells (l.fn.a.width - l.fn.a.skip) (rows_of l.fn.a.flat.now l.fn.a.width l.fn.a.skip));
 }

@@ -23,7 +23,7 @@ loop-height-init c =
       right_dim = omega (arith, c.of-right.ensures.dim, c.requires.right);
       a_is = c.taken_line-line_a.ensures.are_rows;
       b_is = c.taken_line-line_b.ensures.are_rows;
-      so_far = rw (c.clear.ensures.items, c.taken_line-line_a.ensures.rows, c.taken_line-line_b.ensures.rows, op-both_none (fills c.args.op) 1 (fills-none c.args.op))
+      so_far = rw (c.requires.out, c.taken_line-line_a.ensures.rows, c.taken_line-line_b.ensures.rows, op-both_none (fills c.args.op) 1 (fills-none c.args.op))
           (ap flat_of (tower_is_at (fills c.args.op) 2 1 (rows_of a.flat.now a.width a.skip) (rows_of b.flat.now b.width b.skip) c.of-left.result.left c.of-right.result.left
           refl (fills-none c.args.op) v w c.of-left.ensures.left c.of-right.ensures.left));
     }
