@@ -1,20 +1,19 @@
 -- Bytes that are read as rows, without a count of 0 and without a fall, are the body of these rows, and the rows ascend.
-use Rattle.std.proofs.Common.{◌≡◌, ℕ, zero, suc, ◌+◌, ◌^◌, ◌<◌, ◌≤◌, ◌==◌, nat_lt, Bool, true, false, cond, Option, Some, None, List, [], ◌∷◌, ◌++◌, map, length, take, drop, slice_index, ℤ, w32, refl, sym, ap, ap₂, ◌∙◌, subst, ⊎_elim, arith, append_assoc, append-nil, int_lt}
-use Rattle.std.specs.Prelude.{◌&&◌, ◌||◌, option_and_then, int_le}
-use Rattle.std.specs.Int.{cast_signed}
+use Rattle.std.proofs.Common.{◌≡◌, ℕ, zero, suc, ◌+◌, ◌<◌, ◌≤◌, ◌==◌, Bool, true, false, cond, Option, Some, None, List, [], ◌∷◌, ◌++◌, map, length, drop, slice_index, ℤ, refl, sym, ap, ap₂, ◌∙◌, subst, arith, append_assoc, append-nil, int_lt}
+use Rattle.std.specs.Prelude.{◌&&◌, ◌||◌, option_and_then}
 use Rattle.std.specs.List.{AllByRecursion}
 use Rattle.std.specs.Ordering.{int_eq, is_lt}
-use Rattle.std.proofs.lemmas.Bool.{and_from, cases_Bool}
+use Rattle.std.proofs.lemmas.Bool.{and_from}
 use Rattle.std.proofs.lemmas.Bool.Decides.{nat_tests}
 use Rattle.std.proofs.lemmas.Int.{ints as int_facts}
 use Rattle.std.proofs.lemmas.List.{take-append-drop, get_or-drop}
-use Rattle.byteorder.specs.Endian.{big_number, big_bytes}
+use Rattle.byteorder.specs.Endian.{big_bytes}
 use Rattle.evm_rows.specs.Rows.{ascends, is_below_first, row_cmp}
 use Rattle.evm_cells.specs.Places.{before}
 use Rattle.evm_cells.proofs.Xor.{and_first, and_second}
 use Rattle.evm_rows.proofs.Bridge.{before-cmp}
 use Rattle.evm_rows.proofs.RowsOrder.{Wide}
-use Rattle.evm_sections.specs.Couplets.{couplets_of, joined, rise, rise_above}
+use Rattle.evm_sections.specs.Couplets.{couplets_of, joined, rise_above}
 use Rattle.evm_sections.proofs.Stretch.{StartsOther, couplets_of-under, row_cmp-under}
 use Rattle.evm_formats.specs.FirstFile.{field}
 use Rattle.evm_formats.specs.Nested.{Reading, noted, falls, next_count, next_height, is_cut_off, after_count, after_height, after_row, read_heights, read_body}

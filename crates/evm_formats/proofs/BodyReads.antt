@@ -1,6 +1,6 @@
 -- The body of extreme vertices is read as these rows, without a count of 0 and without a fall.
-use Rattle.std.proofs.Common.{◌≡◌, ℕ, zero, suc, ◌+◌, ◌^◌, ◌<◌, ◌≤◌, ◌==◌, nat_lt, Bool, true, false, cond, Option, Some, None, List, [], ◌∷◌, ◌++◌, map, length, drop, ℤ, SFits, w32, to_z-of_z, refl, sym, ap, ap₂, ◌∙◌, arith, append_assoc, append-nil, length-append, int_lt}
-use Rattle.std.specs.Prelude.{◌&&◌, option_and_then, int_le}
+use Rattle.std.proofs.Common.{◌≡◌, ℕ, zero, suc, ◌+◌, ◌^◌, ◌<◌, ◌==◌, nat_lt, Bool, true, false, cond, Option, Some, None, List, [], ◌∷◌, ◌++◌, map, length, drop, ℤ, SFits, w32, to_z-of_z, refl, sym, ap, ap₂, ◌∙◌, arith, append_assoc, append-nil, length-append, int_lt}
+use Rattle.std.specs.Prelude.{option_and_then}
 use Rattle.std.specs.Int.{cast_unsigned, cast_signed}
 use Rattle.std.specs.List.{AllByRecursion, list_all}
 use Rattle.std.proofs.lemmas.Bool.Decides.{Decides-eqb, nat_tests}
@@ -13,15 +13,14 @@ use Rattle.evm_cells.specs.Vertices.{IsVertexList}
 use Rattle.evm_cells.specs.Places.{before, ascending}
 use Rattle.evm_cells.proofs.Order.{refuted}
 use Rattle.evm_cells.proofs.Xor.{and_first, and_second}
-use Rattle.evm_cells.proofs.Universe.{point_parts}
 use Rattle.evm_rows.proofs.Bridge.{wide-points}
 use Rattle.evm_sections.specs.Couplets.{couplets_of, joined, rise, rise_above, AllVertices}
 use Rattle.evm_sections.proofs.Rising.{joined-couplets_of}
 use Rattle.evm_sections.proofs.Heights.{heights, points-heights, couplets_rise, couplets-vertices}
 use Rattle.evm_formats.specs.FirstFile.{field}
-use Rattle.evm_formats.specs.Nested.{Reading, noted, falls, next_count, next_height, is_cut_off, after_count, after_height, after_row, read_heights, read_body}
+use Rattle.evm_formats.specs.Nested.{Reading, noted, falls, next_count, next_height, after_count, after_height, read_heights, read_body}
 use Rattle.evm_formats.specs.RowBodies.{items, row_body}
-use Rattle.evm_formats.proofs.Fields.{fits_is, of_z-below, length-field}
+use Rattle.evm_formats.proofs.Fields.{fits_is, of_z-below}
 use Rattle.evm_formats.proofs.Bodies.{few_couplets, HasRow, AllHaveRows, couplets_have_rows}
 
 -- ---- one field

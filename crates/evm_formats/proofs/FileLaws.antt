@@ -1,5 +1,5 @@
 -- Files tell solids and cell sets apart.
-use Rattle.std.proofs.Common.{◌≡◌, ℕ, inl, inr, List, [], ◌∷◌, ◌++◌, slice_index, ℤ, refl, sym, ap, ap₂, ◌∙◌, arith, ⊎_elim}
+use Rattle.std.proofs.Common.{◌≡◌, ℕ, inl, inr, List, ◌++◌, slice_index, ℤ, refl, sym, ap, ap₂, ◌∙◌, arith, ⊎_elim}
 use Rattle.std.specs.Prelude.{◌==◌, if◌then◌else◌}
 use Rattle.evm_cells.proofs.Examples.{box_of_six}
 use Rattle.evm_cells.specs.Examples.{plane}
@@ -10,7 +10,6 @@ use Rattle.evm_rows.specs.Rows.{Vertices, IsSolid, cells_of}
 use Rattle.evm_rows.proofs.Solids.{same_cells}
 use Rattle.evm_sections.specs.Couplets.{couplets_of}
 use Rattle.evm_formats.specs.FirstFile.{first_file_bytes, first_file_of_cells, stated_dim, listed_rows}
-use Rattle.evm_formats.specs.Nested.{body}
 use Rattle.evm_formats.specs.RowBodies.{row_body}
 use Rattle.evm_formats.specs.File.{file_bytes, file_of_cells, stated_rows, reading, rows_in, head_bytes, six_cells, IsSolidCells, IsFileOf, IsFileOfCells, TellsSolids, TellsCells, VersionsDiffer, FilesByStatement, FileOfSix, FirstFileOfSix}
 use Rattle.evm_formats.proofs.Bodies.{row_body-evm}

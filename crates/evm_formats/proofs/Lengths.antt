@@ -75,28 +75,49 @@ at_least_one : (wide : Bool) (n : ℕ) → n ≤ bytes_of wide n
 at_least_one true n = omega arith
 at_least_one false n = omega arith
 
-length-shot : (n z : ℕ) (size : Option (ℕ × ℕ)) (f : Fields) (s : Shot) → shot n z size (Some f) ≡ Ok s → s.height * s.width + length s.rest ≤ length f.rest
+-- how many bytes an image with these fields takes
+abbrev pub bytes_shot : Fields → ℕ
+bytes_shot f = bytes_of (is_wide f.maxval) (f.height * f.width)
+
+-- the image with these fields, and what follows it
+abbrev pub found_shot : Fields → Shot
+found_shot f =
+    record { width = f.width; height = f.height; picture = record { bytes = take (bytes_shot f) f.rest; wide = is_wide f.maxval }; rest = drop (bytes_shot f) f.rest }
+
+-- what holds of an image that is not refused
+pub record IsShot (n z : ℕ) (size : Option (ℕ × ℕ)) (f : Fields) (s : Shot) : Type 0 where
+  pub numbers : are_numbers f.width f.height f.maxval ≡ true
+  pub range : in_range n z f.width f.height ≡ true
+  pub shape : is_shape n size f.width f.height ≡ true
+  pub room : bytes_shot f ≤ length f.rest
+  pub is : found_shot f ≡ s
+
+pub shot_parts : (n z : ℕ) (size : Option (ℕ × ℕ)) (f : Fields) (s : Shot) → shot n z size (Some f) ≡ Ok s → IsShot n z size f s
 unfolding shot
-length-shot n z size f s e =
-    at (are_numbers f.width f.height f.maxval) (in_range n z f.width f.height) (is_shape n size f.width f.height) (nat_le bytes (length f.rest)) refl e
+shot_parts n z size f s e = at (are_numbers f.width f.height f.maxval) (in_range n z f.width f.height) (is_shape n size f.width f.height) (nat_le (bytes_shot f) (length f.rest)) refl refl refl refl e
   where
-    bytes : ℕ
-    bytes = bytes_of (is_wide f.maxval) (f.height * f.width)
+    at : (a b c d : Bool) → are_numbers f.width f.height f.maxval ≡ a → in_range n z f.width f.height ≡ b → is_shape n size f.width f.height ≡ c → nat_le (bytes_shot f) (length f.rest) ≡ d
+        → cond {A = Result Shot VoxelError} a (cond {A = Result Shot VoxelError} b (cond {A = Result Shot VoxelError} c (cond {A = Result Shot VoxelError} d (Ok (found_shot f)) (Err Short)) (Err Shape)) (Err Range)) (Err Header) ≡ Ok s
+        → IsShot n z size f s
+    at false b c d p q r l e = absurd (cc e)
+    at true false c d p q r l e = absurd (cc e)
+    at true true false d p q r l e = absurd (cc e)
+    at true true true false p q r l e = absurd (cc e)
+    at true true true true p q r l e = record { numbers = p; range = q; shape = r; room = grind (arith, nat_tests); is = cc e }
 
-    found : Shot
-    found = record { width = f.width; height = f.height; picture = record { bytes = take bytes f.rest; wide = is_wide f.maxval }; rest = drop bytes f.rest }
+-- and such an image is found
+pub shot_made : (n z : ℕ) (size : Option (ℕ × ℕ)) (f : Fields) → are_numbers f.width f.height f.maxval ≡ true → in_range n z f.width f.height ≡ true → is_shape n size f.width f.height ≡ true
+    → bytes_shot f ≤ length f.rest → shot n z size (Some f) ≡ Ok (found_shot f)
+unfolding shot
+shot_made n z size f p q r l =
+    let fits : nat_le (bytes_shot f) (length f.rest) ≡ true = grind (arith, nat_tests) in
+    rw (p, q, r, fits) refl
 
-    at : (a b c d : Bool) → nat_le bytes (length f.rest) ≡ d
-        → cond {A = Result Shot VoxelError} a (cond {A = Result Shot VoxelError} b (cond {A = Result Shot VoxelError} c (cond {A = Result Shot VoxelError} d (Ok found) (Err Short)) (Err Shape)) (Err Range)) (Err Header) ≡ Ok s
-        → s.height * s.width + length s.rest ≤ length f.rest
-    at false b c d p e = absurd (cc e)
-    at true false c d p e = absurd (cc e)
-    at true true false d p e = absurd (cc e)
-    at true true true false p e = absurd (cc e)
-    at true true true true p e =
-        let l : bytes ≤ length f.rest = grind (arith, nat_tests) in
-        let same : found ≡ s = cc e in
-        subst (λ (t : Shot). t.height * t.width + length t.rest ≤ length f.rest) same (omega (arith, at_least_one (is_wide f.maxval) (f.height * f.width), length-drop bytes f.rest))
+length-shot : (n z : ℕ) (size : Option (ℕ × ℕ)) (f : Fields) (s : Shot) → shot n z size (Some f) ≡ Ok s → s.height * s.width + length s.rest ≤ length f.rest
+length-shot n z size f s e =
+    let parts = shot_parts n z size f s e in
+    subst (λ (t : Shot). t.height * t.width + length t.rest ≤ length f.rest) parts.is
+    (omega (arith, parts.room, at_least_one (is_wide f.maxval) (f.height * f.width), length-drop (bytes_shot f) f.rest))
 
 length-some : (n z : ℕ) (size : Option (ℕ × ℕ)) (bs : List ℕ) (o : Option Fields) (s : Shot) → fields bs ≡ o → shot n z size o ≡ Ok s → s.height * s.width + length s.rest ≤ length bs
 unfolding shot

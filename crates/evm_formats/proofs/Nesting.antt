@@ -1,12 +1,12 @@
 -- Version 2: the file of a solid states it, and bytes that state a solid are its file.
-use Rattle.std.proofs.Common.{◌≡◌, ℕ, zero, suc, ◌-◌, ◌^◌, ◌<◌, ◌≤◌, ◌⊎◌, inl, inr, ⊎_elim, true, false, Bool, Option, Some, None, List, [], ◌∷◌, ◌++◌, map, length, take, drop, slice_index, ℤ, refl, sym, ap, ap₂, ◌∙◌, subst, arith, append-nil}
+use Rattle.std.proofs.Common.{◌≡◌, ℕ, suc, ◌-◌, ◌<◌, ◌≤◌, inl, inr, ⊎_elim, true, Some, None, List, [], ◌∷◌, ◌++◌, length, take, drop, slice_index, ℤ, refl, sym, ap, ap₂, ◌∙◌, subst, arith, append-nil}
 use Rattle.std.specs.Prelude.{option_and_then, ◌==◌, if◌then◌else◌}
 use Rattle.std.proofs.lemmas.List.{take-append-drop, map-id}
 use Rattle.byteorder.specs.Endian.{big_number, big_bytes}
-use Rattle.evm_cells.specs.Vertices.{evm, cells, IsVertexList}
+use Rattle.evm_cells.specs.Vertices.{cells, IsVertexList}
 use Rattle.evm_cells.proofs.Core.{evm-cells}
 use Rattle.evm_cells.proofs.Universe.{cell_set-cells}
-use Rattle.evm_rows.specs.Rows.{Vertices, IsSolid, cells_of, ascends}
+use Rattle.evm_rows.specs.Rows.{Vertices, IsSolid, ascends}
 use Rattle.evm_rows.proofs.RowsOrder.{Wide}
 use Rattle.evm_sections.specs.Couplets.{couplets_of}
 use Rattle.evm_formats.specs.FirstFile.{stated_dim, listed_rows}

@@ -1,18 +1,18 @@
 -- Stacks of images of one size, one behind the other.
-use Rattle.std.proofs.Common.{◌≡◌, ℕ, ◌+◌, ◌*◌, ◌≤◌, ◌<◌, ◌==◌, nat_le, nat_lt, Bool, true, false, cond, ◌&&◌, List, [], ◌∷◌, ◌++◌, length, take, drop, Option, Some, None, Ok, Err, refl, sym, ap, ap₂, ◌∙◌, arith, length-append}
+use Rattle.std.proofs.Common.{◌≡◌, ℕ, ◌+◌, ◌≤◌, ◌<◌, ◌==◌, nat_le, nat_lt, Bool, true, false, cond, ◌&&◌, List, [], ◌∷◌, ◌++◌, length, drop, Option, Some, None, Ok, Err, refl, sym, ap, ap₂, ◌∙◌, arith, length-append}
 use Rattle.std.specs.Prelude.{Result}
 use Rattle.std.proofs.lemmas.Bool.Decides.{nat_tests}
 use Rattle.std.proofs.lemmas.List.{take-append-le, drop-append-le}
 use Rattle.evm_cells.specs.Limits.{limit}
 use Rattle.evm_cells.proofs.Xor.{and_first, and_both}
 use Rattle.evm_formats.specs.declared.voxels.VoxelError.{VoxelError}
-use Rattle.evm_formats.specs.declared.voxels.VoxelError.TheVariants.{Magic, Header, Shape, Range, Short}
-use Rattle.evm_formats.specs.Images.{Picture, Taken, bytes_of, map_ok, then_ok, all_images, cells_of_images}
+use Rattle.evm_formats.specs.declared.voxels.VoxelError.TheVariants.{Magic}
+use Rattle.evm_formats.specs.Images.{Picture, Taken, map_ok, then_ok, all_images, cells_of_images}
 use Rattle.evm_formats.specs.Header.{is_white, begins, Fields, fields}
-use Rattle.evm_formats.specs.Pgm.{Shot, shot, image_at, is_magic, are_numbers, in_range, is_shape, is_wide, after_white, taken, later_image, images_from, shot_cells, pgm_cells}
+use Rattle.evm_formats.specs.Pgm.{Shot, shot, image_at, is_magic, in_range, is_shape, is_wide, after_white, taken, later_image, images_from, shot_cells, pgm_cells}
 use Rattle.evm_formats.specs.VoxelLaws.{IsStackOf, StacksJoin, StackCells}
 use Rattle.evm_formats.proofs.Images.{all-next}
-use Rattle.evm_formats.proofs.Lengths.{ok_found, image_takes, later-takes}
+use Rattle.evm_formats.proofs.Lengths.{ok_found, image_takes, later-takes, bytes_shot, shot_parts, shot_made}
 use Rattle.evm_formats.proofs.Joins.{Extends, Renumbers, all-join, all-renumber, fields-append}
 
 -- ---- an image, and what is appended
@@ -21,31 +21,13 @@ abbrev longer : Shot → List ℕ → Shot
 longer s ys = record s { rest = s.rest ++ ys }
 
 shot-append : (n z : ℕ) (size : Option (ℕ × ℕ)) (f : Fields) (ys : List ℕ) (s : Shot) → shot n z size (Some f) ≡ Ok s → shot n z size (Some (record f { rest = f.rest ++ ys })) ≡ Ok (longer s ys)
-unfolding shot
 shot-append n z size f ys s e =
-    at (are_numbers f.width f.height f.maxval) (in_range n z f.width f.height) (is_shape n size f.width f.height) (nat_le bytes (length f.rest)) refl e
-  where
-    bytes : ℕ
-    bytes = bytes_of (is_wide f.maxval) (f.height * f.width)
-
-    found : List ℕ → Shot
-    found rest = record { width = f.width; height = f.height; picture = record { bytes = take bytes rest; wide = is_wide f.maxval }; rest = drop bytes rest }
-
-    at : (a b c d : Bool) → nat_le bytes (length f.rest) ≡ d
-        → cond {A = Result Shot VoxelError} a (cond {A = Result Shot VoxelError} b (cond {A = Result Shot VoxelError} c (cond {A = Result Shot VoxelError} d (Ok (found f.rest)) (Err Short)) (Err Shape)) (Err Range)) (Err Header) ≡ Ok s
-        → cond {A = Result Shot VoxelError} a (cond {A = Result Shot VoxelError} b (cond {A = Result Shot VoxelError} c (cond {A = Result Shot VoxelError} (nat_le bytes (length (f.rest ++ ys))) (Ok (found (f.rest ++ ys))) (Err Short)) (Err Shape)) (Err Range)) (Err Header) ≡ Ok (longer s ys)
-    at false b c d p e = absurd (cc e)
-    at true false c d p e = absurd (cc e)
-    at true true false d p e = absurd (cc e)
-    at true true true false p e = absurd (cc e)
-    at true true true true p e =
-        let l : bytes ≤ length f.rest = grind (arith, nat_tests) in
-        let m : bytes ≤ length (f.rest ++ ys) = omega (arith, length-append f.rest ys) in
-        let fits : nat_le bytes (length (f.rest ++ ys)) ≡ true = grind (arith, nat_tests) in
-        let same : found f.rest ≡ s = cc e in
-        ap (λ t. cond {A = Result Shot VoxelError} t (Ok (found (f.rest ++ ys))) (Err Short)) fits
-        ∙ ap₂ (λ (u v : List ℕ). Ok (record { width = f.width; height = f.height; picture = record { bytes = u; wide = is_wide f.maxval }; rest = v })) (take-append-le bytes f.rest ys l) (drop-append-le bytes f.rest ys l)
-        ∙ ap (λ (t : Shot). Ok (longer t ys)) same
+    let parts = shot_parts n z size f s e in
+    let room : bytes_shot f ≤ length f.rest = parts.room in
+    shot_made n z size (record f { rest = f.rest ++ ys }) parts.numbers parts.range parts.shape (omega (arith, length-append f.rest ys))
+    ∙ ap₂ (λ (u v : List ℕ). Ok (record { width = f.width; height = f.height; picture = record { bytes = u; wide = is_wide f.maxval }; rest = v }))
+    (take-append-le (bytes_shot f) f.rest ys room) (drop-append-le (bytes_shot f) f.rest ys room)
+    ∙ ap (λ (t : Shot). Ok (longer t ys)) parts.is
 
 no_fields : (n z : ℕ) (size : Option (ℕ × ℕ)) (s : Shot) → shot n z size None ≡ Ok s → ⊥
 unfolding shot
@@ -99,35 +81,14 @@ image_dark n z size (b ∷ c ∷ bs) s e = at ((b == 80) && (c == 53)) refl e
 shot_again : (n z y : ℕ) (size again : Option (ℕ × ℕ)) (o : Option Fields) (s : Shot) → shot n z size o ≡ Ok s
     → ((in_range n z s.width s.height ≡ true) × (is_shape n size s.width s.height ≡ true))
     × (in_range n y s.width s.height ≡ true → is_shape n again s.width s.height ≡ true → shot n y again o ≡ Ok s)
-unfolding shot
-shot_again n z y size again None s e = absurd (cc e)
+shot_again n z y size again None s e = absurd (no_fields n z size s e)
 shot_again n z y size again (Some f) s e =
-    at (are_numbers f.width f.height f.maxval) (in_range n z f.width f.height) (is_shape n size f.width f.height) (nat_le bytes (length f.rest)) refl refl e
-  where
-    bytes : ℕ
-    bytes = bytes_of (is_wide f.maxval) (f.height * f.width)
-
-    found : Shot
-    found = record { width = f.width; height = f.height; picture = record { bytes = take bytes f.rest; wide = is_wide f.maxval }; rest = drop bytes f.rest }
-
-    at : (a b c d : Bool) → in_range n z f.width f.height ≡ b → is_shape n size f.width f.height ≡ c
-        → cond {A = Result Shot VoxelError} a (cond {A = Result Shot VoxelError} b (cond {A = Result Shot VoxelError} c (cond {A = Result Shot VoxelError} d (Ok found) (Err Short)) (Err Shape)) (Err Range)) (Err Header) ≡ Ok s
-        → ((in_range n z s.width s.height ≡ true) × (is_shape n size s.width s.height ≡ true))
-        × (in_range n y s.width s.height ≡ true → is_shape n again s.width s.height ≡ true
-        → cond {A = Result Shot VoxelError} a (cond {A = Result Shot VoxelError} (in_range n y f.width f.height) (cond {A = Result Shot VoxelError} (is_shape n again f.width f.height) (cond {A = Result Shot VoxelError} d (Ok found) (Err Short)) (Err Shape)) (Err Range)) (Err Header) ≡ Ok s)
-    at false b c d p q e = absurd (cc e)
-    at true false c d p q e = absurd (cc e)
-    at true true false d p q e = absurd (cc e)
-    at true true true false p q e = absurd (cc e)
-    at true true true true p q e =
-        let same : found ≡ s = cc e in
-        let w : f.width ≡ s.width = ap (λ (t : Shot). t.width) same in
-        let h : f.height ≡ s.height = ap (λ (t : Shot). t.height) same in (
-          (sym (ap₂ (in_range n z) w h) ∙ p, sym (ap₂ (is_shape n size) w h) ∙ q),
-          λ r k.
-              ap₂ (λ b c. cond {A = Result Shot VoxelError} b (cond {A = Result Shot VoxelError} c (Ok found) (Err Shape)) (Err Range)) (ap₂ (in_range n y) w h ∙ r) (ap₂ (is_shape n again) w h ∙ k)
-              ∙ ap (λ (t : Shot). Ok t) same,
-        )
+    let parts = shot_parts n z size f s e in
+    let w : f.width ≡ s.width = ap (λ (t : Shot). t.width) parts.is in
+    let h : f.height ≡ s.height = ap (λ (t : Shot). t.height) parts.is in (
+      (sym (ap₂ (in_range n z) w h) ∙ parts.range, sym (ap₂ (is_shape n size) w h) ∙ parts.shape),
+      λ r k. shot_made n y again f parts.numbers (ap₂ (in_range n y) w h ∙ r) (ap₂ (is_shape n again) w h ∙ k) parts.room ∙ ap (λ (t : Shot). Ok t) parts.is,
+    )
 
 image_again : (n z y : ℕ) (size again : Option (ℕ × ℕ)) (bs : List ℕ) (s : Shot) → image_at n z size bs ≡ Ok s
     → ((in_range n z s.width s.height ≡ true) × (is_shape n size s.width s.height ≡ true))
