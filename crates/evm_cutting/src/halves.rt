@@ -3,10 +3,10 @@
 ghost use Rattle.std.specs.Prelude.{◌≡◌, ◌<◌, IfOk, IfSome};
 ghost use Rattle.evm_rows.specs.View.{vertices_of};
 ghost use Rattle.evm_cutting.specs.Cuts.{IsBetween};
-ghost use Rattle.evm_cutting.specs.Splits.{IsSplit};
+ghost use Rattle.evm_cutting.specs.Splits.{IsSplit, IsSplitAt};
 
-use crate::sides::{over, under};
-use evm_rows::{NoMemory, Rows, Solid, limit};
+use crate::sides::under;
+use evm_rows::{NoMemory, Rows, Solid, limit, xor};
 use std::alloc::Global;
 
 /// A middle coordinate on an axis, counted from 0, above the least one and strictly within the limits of the dimension; none where
@@ -53,21 +53,31 @@ pub struct Split {
     pub high: Solid,
 }
 
+/// The two sides of a plane. What is above it is the exclusive or of the solid and of what is below: one merge. Takes memory for both
+/// sides, and what `clip` takes.
+pub fn cut_at(alloc: Global, a: Rows<'_>, axis: usize, at: i32) -> Result<Split, NoMemory>
+    requires { IsBetween (vertices_of a).dim axis at }
+    ensures { IfOk result (IsSplitAt (vertices_of a.entry) axis at) }
+{
+    let low = under(alloc, a, axis, at)?;
+    let high = xor(alloc, a, low.rows())?;
+    Ok(Split {
+        axis,
+        at,
+        low,
+        high,
+    })
+}
+
 /// The two sides of a plane, if each is clearly smaller than the whole.
 fn split_at(alloc: Global, solid: &Solid, axis: usize, at: i32) -> Result<Option<Split>, NoMemory>
     requires { IsBetween solid.now.dim axis at }
     ensures { IfOk result (λ o. IfSome o (IsSplit solid.now)) }
 {
     let most = solid.len() - solid.len() / 8;
-    let low = under(alloc, solid.rows(), axis, at)?;
-    let high = over(alloc, solid.rows(), axis, at)?;
-    if low.len() <= most && high.len() <= most {
-        Ok(Some(Split {
-            axis,
-            at,
-            low,
-            high,
-        }))
+    let made = cut_at(alloc, solid.rows(), axis, at)?;
+    if made.low.len() <= most && made.high.len() <= most {
+        Ok(Some(made))
     } else {
         Ok(None)
     }

@@ -4,8 +4,14 @@
 //! side alone. (This project's own.)
 #![tactic(auto)]
 
+mod booleans;
+mod dense;
 mod halves;
+mod middles;
 mod sides;
+#[cfg(test)]
+mod tests;
 
-pub use halves::{Split, halved};
+pub use booleans::combine;
+pub use halves::{Split, cut_at, halved};
 pub use sides::{over, under};

@@ -1,0 +1,151 @@
+//! Booleans of two solids, by what both have on the two sides of planes.
+
+ghost use Rattle.std.specs.Prelude.{◌≡◌, IfOk, IfSome};
+ghost use Rattle.evm_boolean.specs.Tower.{fills};
+ghost use Rattle.evm_cells.specs.Booleans as CellBooleans;
+ghost use Rattle.evm_cells.specs.Vertices.{cells};
+ghost use Rattle.evm_rows.specs.Rows.{combined_rows};
+ghost use Rattle.evm_rows.specs.View.{vertices_of};
+ghost use Rattle.evm_cutting.specs.Splits.{AreSplit};
+
+use crate::dense::is_dense;
+use crate::halves::{Split, cut_at};
+use crate::middles::inner_plane;
+use evm_boolean::Op2;
+use evm_rows::{NoMemory, Rows, Solid, xor};
+use std::alloc::Global;
+
+/// How often operands are cut at most.
+const DEEP: usize = 64;
+
+/// How many rows two operands have together at most where no cut is tried (measured).
+fn few_rows(dim: usize) -> usize {
+    match dim {
+        0 | 1 => usize::MAX,
+        2 => 65_536,
+        5 => 1024,
+        _ => 512,
+    }
+}
+
+/// The Boolean `op` of two views of one dimension: the same as [`evm_boolean::combine`], in less time where the operands are large and
+/// wide.
+///
+/// Where the operands have many rows, a plane cuts both, the parts on each side of it are combined by themselves, and the two answers,
+/// which share no cell, are put together by one exclusive or. A plane is taken if it leaves to each side at most seven of eight rows,
+/// and all four parts have at most half as many rows again as the operands. Few rows, and rows of which the sections change fast, are
+/// combined by the recursion over sections.
+///
+/// It takes memory for the parts of operands that wait, commonly about two times the operands, for a finished answer of each side that
+/// waits for the other, and for what [`evm_boolean::combine`] takes. The one error is want of memory.
+pub fn combine(alloc: Global, op: Op2, a: Rows<'_>, b: Rows<'_>) -> Result<Solid, NoMemory>
+    requires { (vertices_of a).dim ≡ (vertices_of b).dim }
+    ensures dim { IfOk result (λ s. s.dim ≡ (vertices_of a.entry).dim) }
+    ensures rows { IfOk result
+        (λ s. s.rows ≡ combined_rows (fills op) (vertices_of a.entry).dim
+        (vertices_of a.entry).rows (vertices_of b.entry).rows) }
+    ensures cells { IfOk result
+        (λ s. cells s.dim s.rows
+        ≡ CellBooleans.combine (fills op) s.dim (cells s.dim (vertices_of a.entry).rows)
+        (cells s.dim (vertices_of b.entry).rows)) }
+{
+    let few = if is_dense(a, b) {
+        usize::MAX
+    } else {
+        few_rows(a.dim())
+    };
+    let solid = combine_parts(alloc, op, a, b, few, 0, DEEP)?;
+    Ok(solid)
+}
+
+/// The Boolean of two views, which are cut where they have more than `few` rows together, and at most `fuel` times one in the other.
+/// The axis that is tried first is `first`.
+pub(crate) fn combine_parts(
+    alloc: Global,
+    op: Op2,
+    a: Rows<'_>,
+    b: Rows<'_>,
+    few: usize,
+    first: usize,
+    fuel: usize,
+) -> Result<Solid, NoMemory>
+    requires { (vertices_of a).dim ≡ (vertices_of b).dim }
+    ensures dim { IfOk result (λ s. s.dim ≡ (vertices_of a.entry).dim) }
+    ensures rows { IfOk result
+        (λ s. s.rows ≡ combined_rows (fills op) (vertices_of a.entry).dim
+        (vertices_of a.entry).rows (vertices_of b.entry).rows) }
+    ensures cells { IfOk result
+        (λ s. cells s.dim s.rows
+        ≡ CellBooleans.combine (fills op) s.dim (cells s.dim (vertices_of a.entry).rows)
+        (cells s.dim (vertices_of b.entry).rows)) }
+{
+    let count = a.len().saturating_add(b.len());
+    if fuel == 0 || a.len() == 0 || b.len() == 0 || count <= few {
+        return evm_boolean::combine(alloc, op, a, b);
+    }
+    let cuts = divided(alloc, a, b, first)?;
+    match cuts {
+        None => evm_boolean::combine(alloc, op, a, b),
+        Some(pair) => {
+            let next = pair.left.axis + 1;
+            let low = combine_parts(
+                alloc,
+                op,
+                pair.left.low.rows(),
+                pair.right.low.rows(),
+                few,
+                next,
+                fuel - 1,
+            )?;
+            let high = combine_parts(
+                alloc,
+                op,
+                pair.left.high.rows(),
+                pair.right.high.rows(),
+                few,
+                next,
+                fuel - 1,
+            )?;
+            let both = xor(alloc, low.rows(), high.rows())?;
+            Ok(both)
+        }
+    }
+}
+
+/// Two solids, cut by one plane.
+#[derive(Drop)]
+pub(crate) struct Pair {
+    /// The first solid.
+    pub left: Split,
+    /// The second.
+    pub right: Split,
+}
+
+/// Two solids cut by a plane across some axis, the first that pays from `first` on, if one was found.
+fn divided(alloc: Global, a: Rows<'_>, b: Rows<'_>, first: usize) -> Result<Option<Pair>, NoMemory>
+    requires { (vertices_of a).dim ≡ (vertices_of b).dim }
+    ensures { IfOk result
+        (λ o. IfSome o (AreSplit (vertices_of a.entry) (vertices_of b.entry))) }
+{
+    let dim = a.dim();
+    for turn in 0..dim {
+        let axis = (first % dim + turn) % dim;
+        let plane = inner_plane(alloc, a, b, axis)?;
+        if let Some(at) = plane {
+            let left = cut_at(alloc, a, axis, at)?;
+            let right = cut_at(alloc, b, axis, at)?;
+            if pays(&left, &right, a.len().saturating_add(b.len())) {
+                return Ok(Some(Pair { left, right }));
+            }
+        }
+    }
+    Ok(None)
+}
+
+/// Whether a cut of two solids pays, which have `count` rows together: a choice of speed alone.
+fn pays(left: &Split, right: &Split, count: usize) -> bool {
+    let low = left.low.len().saturating_add(right.low.len());
+    let high = left.high.len().saturating_add(right.high.len());
+    let most = count - count / 8;
+    low <= most && high <= most && low.saturating_add(high) <= count.saturating_add(count / 2)
+}
