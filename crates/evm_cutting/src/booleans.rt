@@ -1,11 +1,8 @@
 //! Booleans of two solids, by what both have on the two sides of planes.
 
 ghost use Rattle.std.specs.Prelude.{◌≡◌, IfOk, IfSome};
-ghost use Rattle.evm_boolean.specs.Tower.{fills};
-ghost use Rattle.evm_cells.specs.Booleans as CellBooleans;
-ghost use Rattle.evm_cells.specs.Vertices.{cells};
-ghost use Rattle.evm_rows.specs.Rows.{combined_rows};
 ghost use Rattle.evm_rows.specs.View.{vertices_of};
+ghost use Rattle.evm_cutting.specs.Booleans.{combined, HasCombined};
 ghost use Rattle.evm_cutting.specs.Splits.{AreSplit};
 
 use crate::dense::is_dense;
@@ -42,12 +39,9 @@ pub fn combine(alloc: Global, op: Op2, a: Rows<'_>, b: Rows<'_>) -> Result<Solid
     requires { (vertices_of a).dim ≡ (vertices_of b).dim }
     ensures dim { IfOk result (λ s. s.dim ≡ (vertices_of a.entry).dim) }
     ensures rows { IfOk result
-        (λ s. s.rows ≡ combined_rows (fills op) (vertices_of a.entry).dim
-        (vertices_of a.entry).rows (vertices_of b.entry).rows) }
+        (λ s. s.rows ≡ combined op (vertices_of a.entry) (vertices_of b.entry)) }
     ensures cells { IfOk result
-        (λ s. cells s.dim s.rows
-        ≡ CellBooleans.combine (fills op) s.dim (cells s.dim (vertices_of a.entry).rows)
-        (cells s.dim (vertices_of b.entry).rows)) }
+        (λ s. HasCombined op (vertices_of a.entry) (vertices_of b.entry) s) }
 {
     let few = if is_dense(a, b) {
         usize::MAX
@@ -72,12 +66,9 @@ pub(crate) fn combine_parts(
     requires { (vertices_of a).dim ≡ (vertices_of b).dim }
     ensures dim { IfOk result (λ s. s.dim ≡ (vertices_of a.entry).dim) }
     ensures rows { IfOk result
-        (λ s. s.rows ≡ combined_rows (fills op) (vertices_of a.entry).dim
-        (vertices_of a.entry).rows (vertices_of b.entry).rows) }
+        (λ s. s.rows ≡ combined op (vertices_of a.entry) (vertices_of b.entry)) }
     ensures cells { IfOk result
-        (λ s. cells s.dim s.rows
-        ≡ CellBooleans.combine (fills op) s.dim (cells s.dim (vertices_of a.entry).rows)
-        (cells s.dim (vertices_of b.entry).rows)) }
+        (λ s. HasCombined op (vertices_of a.entry) (vertices_of b.entry) s) }
 {
     let count = a.len().saturating_add(b.len());
     if fuel == 0 || a.len() == 0 || b.len() == 0 || count <= few {
