@@ -52,6 +52,11 @@ pub trait Meter: Drop {
     /// Makes the pending reading of a change, of which `before` and `after` are the parts of the solid inside a box that has every
     /// cell within 1 of those that change, `gained` the cells that come and `lost` those that go. The reading stays. The one error is
     /// want of memory, after which nothing is pending.
+    ///
+    /// It is called only of a meter that has a reading and nothing pending, and only with the parts of the very solid whose reading
+    /// it is: there is one solid of whose cells, all of them, the reading is the measure, of which `before` is what lies inside the
+    /// box, and which the change makes one of which `after` is what lies inside. Outside the box the two are the same, so the
+    /// reading with `after` measured more and `before` measured less is the measure of the whole solid after the change.
     fn prepare(
         &mut self,
         alloc: Global,

@@ -1,6 +1,6 @@
 //! The type of scenes, and what can be asked of one.
 
-ghost use Rattle.std.specs.Prelude.{◌≡◌, ◌<◌, ℕ, true, false, length, map, None, slice_get, option_map, Some, MatchOption, IfOk, IfErr, IfSome};
+ghost use Rattle.std.specs.Prelude.{◌≡◌, ◌<◌, true, false, length, map, slice_get, option_map, Some, MatchOption, IfOk, IfErr, IfSome};
 ghost use Rattle.evm_cells.specs.Vertices.{evm, cells};
 ghost use Rattle.evm_rows.specs.Rows.{IsSolid};
 ghost use Rattle.evm_model.specs.Scene.{start_with, stands, dim_of, is_input, value, IsWell};
@@ -42,11 +42,10 @@ impl<M: Meter> Model for Scene<M> {
 }
 
 impl<M: Meter> Scene<M> {
-    /// The scene without names, and a free slot for each of these meters, in their order. No meter may have a reading yet. Takes
-    /// memory for the list of slots; after want of memory the meters are dropped.
+    /// The scene without names, and a free slot for each of these meters, in their order. A reading that a meter comes with is not seen:
+    /// nothing is read before its slot watches a name, and then the meter begins anew. Takes memory for the list of slots; after want
+    /// of memory the meters are dropped.
     pub fn new(alloc: Global, meters: Vec<M>) -> Result<Scene<M>, NoMemory>
-        requires { (k : ℕ) (m : M) → slice_get meters.items k ≡ Some m
-            → (M.reading m ≡ None) × (M.pending m ≡ None) }
         ensures { IfOk result (λ s. s ≡ start_with (map (λ m. M.kind m) meters.items)) }
     {
         Ok(Scene {

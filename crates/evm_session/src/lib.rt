@@ -21,8 +21,7 @@
 //! `list`.
 #![tactic(auto)]
 
-ghost use Rattle.std.specs.Prelude.{◌≡◌, ℕ, map, None, Some, IfOk};
-ghost use Rattle.std.specs.List.{slice_get};
+ghost use Rattle.std.specs.Prelude.{◌≡◌, map, IfOk};
 ghost use Rattle.evm_model.specs.Scene.{start_with};
 ghost use Rattle.evm_session.specs.Answers.{Answers, shelf_view};
 
@@ -63,11 +62,10 @@ impl<M: Meter> Model for Session<M> {
 }
 
 impl<M: Meter> Session<M> {
-    /// A session without names, and with a free slot for each of these meters, in their order. No meter may have a reading yet. The
-    /// one error is want of memory, after which the meters are dropped.
+    /// A session without names, and with a free slot for each of these meters, in their order. A reading that a meter comes with is not
+    /// seen: nothing is read before its slot watches a name, and then the meter begins anew. The one error is want of memory, after
+    /// which the meters are dropped.
     pub fn new(alloc: Global, meters: Vec<M>) -> Result<Session<M>, NoMemory>
-        requires { (k : ℕ) (m : M) → slice_get meters.items k ≡ Some m
-            → (M.reading m ≡ None) × (M.pending m ≡ None) }
         ensures { IfOk result (λ made. made ≡ start_with (map (λ m. M.kind m) meters.items)) }
     {
         Ok(Session {

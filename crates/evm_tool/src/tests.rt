@@ -69,8 +69,6 @@ fn run_over<M: Meter>(
     shelf: &mut MemShelf,
     meters: Vec<M>,
 ) -> Result<(Status, MemSink), Fail>
-    requires { (k : ℕ) (m : M) → slice_get meters.items k ≡ Some m
-        → (M.reading m ≡ None) × (M.pending m ≡ None) }
 {
     let words = words_of(alloc, &["evm", "run"])?;
     let mut input = MemSource::new(script, PIECE, Vec::new(alloc));
@@ -114,8 +112,6 @@ fn expect_with<M: Meter>(
     replies: &str,
     end: Status,
 ) -> Result<(), Fail>
-    requires { (k : ℕ) (m : M) → slice_get meters.items k ≡ Some m
-        → (M.reading m ≡ None) × (M.pending m ≡ None) }
 {
     let alloc = rt.alloc();
     let script_bytes = lines_of(alloc, script)?.into_bytes();

@@ -1,7 +1,6 @@
 //! The top call.
 
-ghost use Rattle.std.specs.Prelude.{◌≡◌, ℕ, map, None, Some, IfSome, string_bytes};
-ghost use Rattle.std.specs.List.{slice_get};
+ghost use Rattle.std.specs.Prelude.{◌≡◌, map, IfSome, string_bytes};
 ghost use Rattle.evm_session.specs.Answers.{shelf_view};
 ghost use Rattle.evm_words.specs.Words.{form_of_words};
 ghost use Rattle.evm_tool.specs.Top.{Runs, Does, TellsForm, ReadFaults, WriteFaults, Finishes, Completes, exit_code};
@@ -60,8 +59,6 @@ fn answer_input<I: Source, O: Sink, S: Shelf, M: Meter>(
     shelf: &mut S,
     meters: Vec<M>,
 ) -> Status
-    requires { (k : ℕ) (m : M) → slice_get meters.items k ≡ Some m
-        → (M.reading m ≡ None) × (M.pending m ≡ None) }
     ensures run { Runs (map (λ m. M.kind m) meters.items) result
         (I.left input.old) (I.left input.new) (O.written output.old) (O.written output.new)
         (shelf_view (S.files shelf.old) (S.faults shelf.old) (S.misses shelf.old))
@@ -112,8 +109,8 @@ fn answer_input<I: Source, O: Sink, S: Shelf, M: Meter>(
 ///
 /// `shelf` has the files of the lines `load` and `save`. A line saves to it before its reply is written.
 ///
-/// `meters` have a slot each, counted from 0, and no reading yet: the lines `meter`, `read` and `unmeter` hand them to names. Whatever
-/// meters are handed in, as long as they keep the contract of [`Meter`], what they read is the measure of their names' values.
+/// `meters` have a slot each, counted from 0: the lines `meter`, `read` and `unmeter` hand them to names. Whatever meters are handed in,
+/// with a reading or without, as long as they keep the contract of [`Meter`], what they read is the measure of their names' values.
 pub fn evm_main<I: Source, O: Sink, S: Shelf, M: Meter>(
     alloc: Global,
     words: &[String],
@@ -122,8 +119,6 @@ pub fn evm_main<I: Source, O: Sink, S: Shelf, M: Meter>(
     shelf: &mut S,
     meters: Vec<M>,
 ) -> Status
-    requires { (k : ℕ) (m : M) → slice_get meters.items k ≡ Some m
-        → (M.reading m ≡ None) × (M.pending m ≡ None) }
     // For `gen` there is a mark for each line of the generated script, none or that memory was missing, so that the summary of the
     // run with these marks was written whole at status 0 and 1, at 1 exactly where it refuses a line, which is exactly where
     // memory was missing at some line; a front of it at 4; nothing at 5; and no other status comes. For `run` some bytes were

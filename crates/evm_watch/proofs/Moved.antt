@@ -5,7 +5,7 @@ use Rattle.std.proofs.lemmas.Int.{ints as int_facts}
 use Rattle.std.proofs.lemmas.Bool.{false≢true}
 use Rattle.evm_cells.specs.Places.{each, has}
 use Rattle.evm_cells.specs.Limits.{is_cell, IsCellSet}
-use Rattle.evm_cells.specs.Booleans.{xor, combine, xor_cells, sub_cells}
+use Rattle.evm_cells.specs.Booleans.{xor, combine, xor_cells, and_cells, sub_cells}
 use Rattle.evm_cells.specs.Shapes.{clip}
 use Rattle.evm_cells.specs.Vertices.{cells}
 use Rattle.evm_cells.specs.Localities.{Measure, measure, close, near, HoldsChange}
@@ -65,15 +65,60 @@ holds_change : (n : ℕ) (lo hi : List ℤ) (S D : List (List ℤ)) → IsCellSe
 holds_change n lo hi S D s d h c e m =
     h c e (sym (again (has S c) (has D c)) ∙ ap (xor (has S c)) (sym (has-xor_cells n S D c s d)) ∙ sym (has-xor_cells n S (xor_cells n S D) c s (cell_set-xor n S D)) ∙ m)
 
+-- of the part and the change, what both have goes, and what the change has beside it comes
+goes : (a b : Bool) → (a && b) ≡ (a && not (xor a b))
+unfolding xor
+goes true true = refl
+goes true false = refl
+goes false b = refl
+
+lost_part : (n : ℕ) (S D : List (List ℤ)) → IsCellSet n S → IsCellSet n D → and_cells n S D ≡ sub_cells n S (xor_cells n S D)
+unfolding and_cells sub_cells
+lost_part n S D s d =
+    let x : IsCellSet n (and_cells n S D) = cell_set-combine (λ a b. a && b) n S D in
+    let y : IsCellSet n (sub_cells n S (xor_cells n S D)) = cell_set-combine (λ a b. a && not b) n S (xor_cells n S D) in
+    same_sets (and_cells n S D) (sub_cells n S (xor_cells n S D)) x.ascends y.ascends
+    (λ c. has-combine (λ a b. a && b) n S D c
+    ∙ ap (λ b. is_cell n c && b) (goes (has S c) (has D c) ∙ ap (λ b. has S c && not b) (sym (has-xor_cells n S D c s d)))
+    ∙ sym (has-combine (λ a b. a && not b) n S (xor_cells n S D) c))
+
+comes : (i a b : Bool) → (b ≡ true → i ≡ true) → xor (i && (a && b)) b ≡ (i && (xor a b && not a))
+unfolding xor
+comes true true true h = refl
+comes true true false h = refl
+comes true false true h = refl
+comes true false false h = refl
+comes false a true h = absurd (false≢true (h refl))
+comes false a false h = refl
+
+gained_part : (n : ℕ) (S D : List (List ℤ)) → IsCellSet n S → IsCellSet n D → xor_cells n (and_cells n S D) D ≡ sub_cells n (xor_cells n S D) S
+unfolding and_cells sub_cells
+gained_part n S D s d =
+    let l : IsCellSet n (and_cells n S D) = cell_set-combine (λ a b. a && b) n S D in
+    let x : IsCellSet n (xor_cells n (and_cells n S D) D) = cell_set-xor n (and_cells n S D) D in
+    let y : IsCellSet n (sub_cells n (xor_cells n S D) S) = cell_set-combine (λ a b. a && not b) n (xor_cells n S D) S in
+    same_sets (xor_cells n (and_cells n S D) D) (sub_cells n (xor_cells n S D) S) x.ascends y.ascends
+    (λ c. has-xor_cells n (and_cells n S D) D c l d
+    ∙ ap (λ b. xor b (has D c)) (has-combine (λ a b. a && b) n S D c)
+    ∙ comes (is_cell n c) (has S c) (has D c) (λ m. member_passes (is_cell n) D c d.cells m)
+    ∙ ap (λ b. is_cell n c && (b && not (has S c))) (sym (has-xor_cells n S D c s d))
+    ∙ sym (has-combine (λ a b. a && not b) n (xor_cells n S D) S c))
+
 -- the parts, as they are made
 pub parts_are : (whole delta before gained lost after : Vertices) (lo hi : List ℤ) → delta.dim ≡ whole.dim → IsRound lo hi delta → before.dim ≡ whole.dim → cells_of before ≡ clip whole.dim lo hi (cells_of whole)
     → after.dim ≡ before.dim → cells_of after ≡ xor_cells before.dim (cells before.dim before.rows) (cells before.dim delta.rows)
-    → gained.dim ≡ after.dim → cells_of gained ≡ sub_cells gained.dim (cells gained.dim after.rows) (cells gained.dim before.rows)
-    → lost.dim ≡ before.dim → cells_of lost ≡ sub_cells lost.dim (cells lost.dim before.rows) (cells lost.dim after.rows) → AreParts whole delta before gained lost after
-parts_are whole delta before gained lost after lo hi dd r db eb da ea dg eg dl el =
+    → lost.dim ≡ before.dim → cells_of lost ≡ and_cells lost.dim (cells lost.dim before.rows) (cells lost.dim delta.rows)
+    → gained.dim ≡ lost.dim → cells_of gained ≡ xor_cells lost.dim (cells lost.dim lost.rows) (cells lost.dim delta.rows) → AreParts whole delta before gained lost after
+parts_are whole delta before gained lost after lo hi dd r db eb da ea dl el dg eg =
     let n : ℕ = whole.dim in
+    let m : ℕ = before.dim in
     let D : List (List ℤ) = cells n delta.rows in
-    let h : HoldsNear n lo hi D = subst (λ (m : ℕ). HoldsNear m lo hi (cells m delta.rows)) dd r.holds in
+    let S : List (List ℤ) = cells_of before in
+    let E : List (List ℤ) = cells m delta.rows in
+    let s : IsCellSet m S = cell_set-cells m before.rows in
+    let e : IsCellSet m E = cell_set-cells m delta.rows in
+    let h : HoldsNear n lo hi D = subst (λ (k : ℕ). HoldsNear k lo hi (cells k delta.rows)) dd r.holds in
+    let goes : cells_of lost ≡ and_cells m S E = el ∙ ap (λ (k : ℕ). and_cells k (cells k before.rows) (cells k delta.rows)) dl in
     record {
       lo = lo;
       hi = hi;
@@ -81,10 +126,15 @@ parts_are whole delta before gained lost after lo hi dd r db eb da ea dg eg dl e
       dim = db;
       dim_changed = da ∙ db;
       part = eb;
-      part_changed = ea ∙ ap (λ (m : ℕ). xor_cells m (cells_of before) (cells m delta.rows)) db ∙ ap (λ S. xor_cells n S D) eb
+      part_changed = ea ∙ ap (λ (k : ℕ). xor_cells k (cells_of before) (cells k delta.rows)) db ∙ ap (λ A. xor_cells n A D) eb
           ∙ changed_part n lo hi (cells_of whole) D (cell_set-cells n whole.rows) (cell_set-cells n delta.rows) h;
-      comes = (dg, eg ∙ ap (λ (m : ℕ). sub_cells m (cells m after.rows) (cells m before.rows)) dg ∙ ap (λ (m : ℕ). sub_cells after.dim (cells_of after) (cells m before.rows)) da);
-      goes = (dl, el ∙ ap (λ (m : ℕ). sub_cells m (cells m before.rows) (cells m after.rows)) dl ∙ ap (λ (m : ℕ). sub_cells before.dim (cells_of before) (cells m after.rows)) (sym da));
+      comes = (dg ∙ dl ∙ sym da,
+      eg ∙ ap (λ A. xor_cells lost.dim A (cells lost.dim delta.rows)) goes
+      ∙ ap (λ (k : ℕ). xor_cells k (and_cells m S E) (cells k delta.rows)) dl
+      ∙ gained_part m S E s e
+      ∙ ap (λ A. sub_cells m A S) (sym ea)
+      ∙ ap (λ (k : ℕ). sub_cells k (cells_of after) S) (sym da));
+      goes = (dl, goes ∙ lost_part m S E s e ∙ ap (sub_cells m S) (sym ea));
     }
 
 -- ---- no change

@@ -6,7 +6,7 @@ ghost use Rattle.evm_rows.specs.Rows.{Vertices};
 ghost use Rattle.evm_rows.specs.View.{vertices_of};
 ghost use Rattle.evm_watch.specs.Parts.{IsLower, IsHigher, IsRound, AreParts};
 
-use evm_boolean::sub;
+use evm_boolean::and;
 use evm_delta::{Ends, hull};
 use evm_rows::{DIM_MAX, NoMemory, Rows, Solid, limit, xor};
 use evm_tiles::Tiles;
@@ -96,8 +96,9 @@ pub(crate) fn parts_round(alloc: Global, whole: &Tiles, delta: Rows<'_>) -> Resu
     let ends = round(delta);
     let before = whole.window(alloc, &ends.lo[..dim], &ends.hi[..dim])?;
     let after = xor(alloc, before.rows(), delta)?;
-    let gained = sub(alloc, after.rows(), before.rows())?;
-    let lost = sub(alloc, before.rows(), after.rows())?;
+    // What goes is what the change has of the part before it; what comes is the rest of the change. Both are no larger than the change.
+    let lost = and(alloc, before.rows(), delta)?;
+    let gained = xor(alloc, lost.rows(), delta)?;
     Ok(Parts {
         before,
         gained,

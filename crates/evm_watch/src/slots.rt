@@ -1,7 +1,7 @@
 //! The list of slots.
 
-ghost use Rattle.std.specs.Prelude.{◌≡◌, ◌<◌, ℕ, true, false, pos, map, set, length, None, Some, option_map, MatchOption, IfOk, OnOk, OnErr, IsErrOf};
-ghost use Rattle.std.specs.List.{list_all, list_any, slice_get};
+ghost use Rattle.std.specs.Prelude.{◌≡◌, true, false, pos, map, set, length, Some, option_map, MatchOption, IfOk, OnOk, OnErr, IsErrOf};
+ghost use Rattle.std.specs.List.{list_any, slice_get};
 ghost use Rattle.evm_rows.specs.Rows.{Vertices};
 ghost use Rattle.evm_meter.specs.Meters.{measured};
 ghost use Rattle.evm_watch.specs.Slots.{Seen, Free, Gone, seen_watches, seen_reading, seen_is_free, seen_attached, EachReads, seen_prepared, seen_committed, seen_abandoned, IsMoved};
@@ -33,10 +33,9 @@ impl<M: Meter> Model for Slots<M> {
 }
 
 impl<M: Meter> Slots<M> {
-    /// The slots of these meters, all free. Takes memory for the list; after want of memory the meters are dropped.
+    /// The slots of these meters, all free. A reading that a meter comes with is not seen: its slot watches no name, so nothing is read
+    /// there, and the meter forgets it when it begins. Takes memory for the list; after want of memory the meters are dropped.
     pub fn new(alloc: Global, meters: Vec<M>) -> Result<Slots<M>, NoMemory>
-        requires { (k : ℕ) (m : M) → slice_get meters.items k ≡ Some m
-            → (M.reading m ≡ None) × (M.pending m ≡ None) }
         ensures { IfOk result (λ s. s ≡ map (λ m. Free (M.kind m)) meters.items) }
     {
         let mut list = Vec::with_capacity(alloc, meters.len())?;

@@ -1,5 +1,5 @@
-use Rattle.std.proofs.Common.{ℕ, List, ℤ, take, sym, ap, ap₂, ◌∙◌, subst}
-use Rattle.evm_cells.specs.Booleans.{xor_cells, sub_cells}
+use Rattle.std.proofs.Common.{ℕ, List, ℤ, take, sym, ap, ◌∙◌, subst}
+use Rattle.evm_cells.specs.Booleans.{xor_cells, and_cells}
 use Rattle.evm_cells.specs.Vertices.{cells}
 use Rattle.evm_rows.specs.Rows.{Vertices}
 use Rattle.evm_rows.specs.View.{vertices_of}
@@ -12,12 +12,13 @@ returns c =
     let lo : List ℤ = c.round-ends.result.lo in
     let hi : List ℤ = c.round-ends.result.hi in
     let n : ℕ = c.dim-dim.result in
-    parts_are c.args.whole.now (vertices_of c.args.delta) c.in_ok-before.before c.in_ok-gained.gained c.in_ok-lost.lost c.in_ok-after.after (take n lo) (take n hi) c.requires
-    (subst (λ (m : ℕ). IsRound (take m lo) (take m hi) (vertices_of c.args.delta)) (sym c.dim-dim.ensures) c.round-ends.ensures.round)
+    let delta : Vertices = vertices_of c.args.delta in
+    parts_are c.args.whole.now delta c.in_ok-before.before c.in_ok-gained.gained c.in_ok-lost.lost c.in_ok-after.after (take n lo) (take n hi) c.requires
+    (subst (λ (m : ℕ). IsRound (take m lo) (take m hi) delta) (sym c.dim-dim.ensures) c.round-ends.ensures.round)
     c.in_ok-before.ensures.dim (c.in_ok-before.ensures.cells)
     (c.in_ok-after.ensures.dim ∙ ap (λ (v : Vertices). v.dim) c.rows.ensures)
-    (c.in_ok-after.ensures.cells ∙ ap (λ (v : Vertices). xor_cells v.dim (cells v.dim v.rows) (cells v.dim (vertices_of c.args.delta).rows)) c.rows.ensures)
-    (c.in_ok-gained.ensures.dim ∙ ap (λ (v : Vertices). v.dim) c.rows-2.ensures)
-    (c.in_ok-gained.ensures.cells ∙ ap₂ (λ (v w : Vertices). sub_cells c.in_ok-gained.gained.dim (cells c.in_ok-gained.gained.dim v.rows) (cells c.in_ok-gained.gained.dim w.rows)) c.rows-2.ensures c.rows-3.ensures)
-    (c.in_ok-lost.ensures.dim ∙ ap (λ (v : Vertices). v.dim) c.rows-4.ensures)
-    (c.in_ok-lost.ensures.cells ∙ ap₂ (λ (v w : Vertices). sub_cells c.in_ok-lost.lost.dim (cells c.in_ok-lost.lost.dim v.rows) (cells c.in_ok-lost.lost.dim w.rows)) c.rows-4.ensures c.rows-5.ensures)
+    (c.in_ok-after.ensures.cells ∙ ap (λ (v : Vertices). xor_cells v.dim (cells v.dim v.rows) (cells v.dim delta.rows)) c.rows.ensures)
+    (c.in_ok-lost.ensures.dim ∙ ap (λ (v : Vertices). v.dim) c.rows-2.ensures)
+    (c.in_ok-lost.ensures.cells ∙ ap (λ (v : Vertices). and_cells c.in_ok-lost.lost.dim (cells c.in_ok-lost.lost.dim v.rows) (cells c.in_ok-lost.lost.dim delta.rows)) c.rows-2.ensures)
+    (c.in_ok-gained.ensures.dim ∙ ap (λ (v : Vertices). v.dim) c.rows-3.ensures)
+    (c.in_ok-gained.ensures.cells ∙ ap (λ (v : Vertices). xor_cells v.dim (cells v.dim v.rows) (cells v.dim delta.rows)) c.rows-3.ensures)
