@@ -1,5 +1,5 @@
 -- Laws of figures, scenes, edits, replies, steps and runs.
-use Rattle.std.specs.Prelude.{ℕ, ◌≡◌, ◌≢◌, ◌↔◌, ◌≤◌, ◌⊎◌, Bool, true, false, not, ◌&&◌, ◌||◌, nat_eq, nat_abs, ℤ, pos, int_le, int_lt, ◌-◌, List, [], ◌∷◌, ◌++◌, length, take, map, flat_map, codes, Option, Some, None, Ok, bytes_eq, count_by, if◌then◌else◌}
+use Rattle.std.specs.Prelude.{ℕ, ◌≡◌, ◌≢◌, ◌↔◌, ◌≤◌, ◌⊎◌, Bool, true, false, not, ◌&&◌, ◌||◌, nat_eq, nat_abs, ℤ, pos, int_le, int_lt, ◌-◌, List, [], ◌∷◌, ◌++◌, length, take, map, flat_map, codes, Option, Some, None, is_some, Ok, bytes_eq, count_by, if◌then◌else◌}
 use Rattle.std.specs.List.{list_any, list_all, starts_with}
 use Rattle.evm_cells.specs.Places.{has, with_at}
 use Rattle.evm_cells.specs.Limits.{IsCellSet}
@@ -21,8 +21,8 @@ use Rattle.evm_model.specs.Figures.{Figure, nothing, box_at, xor_of, or_of, sub_
 use Rattle.evm_model.specs.Files.{Fetches, form_fits, figure_in, figure_fetched, bytes_in}
 use Rattle.evm_model.specs.Orders.{is_among}
 use Rattle.evm_model.specs.Scene.{Scene, Entry, Made, Free, Watches, Gone, start_with, slot_at, reading, measure_of, attached, detached, entry_of, stands, dim_of, operands_of, formula_value, entry_value, value, reaches, is_read, all_stay, with_figure, is_dim, IsWell, IsOrderOf}
-use Rattle.evm_model.specs.Edits.{Edit, Input, Toggle, Add, Cut, Replace, Def, Drop, Missing, Shelf, Form, Memory, EditFits, name_of, refusal, after, changed, changed_names}
-use Rattle.evm_model.specs.Replies.{Reply, No, reply_text, line_of, is_no}
+use Rattle.evm_model.specs.Edits.{Edit, Input, Toggle, Add, Cut, Replace, Def, Drop, Meter, Missing, Shelf, Form, Memory, EditFits, name_of, refusal, after, changed, changed_names}
+use Rattle.evm_model.specs.Replies.{Reply, No, Done, Measured, reply_text, line_of, is_no}
 use Rattle.evm_model.specs.Steps.{Way, Edits, Loads, Saves, Hands, way_of, step, fetches, asks, of_line}
 use Rattle.evm_model.specs.Runs.{World, Mark, Plain, Fetched, answer, fetched_from, run, world_after}
 
@@ -272,6 +272,55 @@ GoneStays = (fetched : Fetches) (scene : Scene) (line : List ℕ) (k : ℤ)
 abbrev pub SlotsAreFixed : Type 0
 SlotsAreFixed = (fetched : Fetches) (scene : Scene) (line : List ℕ)
     → length (step fetched scene line).scene.slots ≡ length scene.slots
+
+-- no line makes a slot or takes one out
+abbrev pub NoSlotComesOrGoes : Type 0
+NoSlotComesOrGoes = (fetched : Fetches) (scene : Scene) (line : List ℕ) (k : ℤ)
+    → is_some (slot_at (step fetched scene line).scene k) ≡ is_some (slot_at scene k)
+
+-- a command that hands a meter to a name, or gives one up
+abbrev pub changes_a_slot : Command → Bool
+changes_a_slot (commands.Meter slot name) = true
+changes_a_slot (commands.Unmeter slot) = true
+changes_a_slot _ = false
+
+-- any other line leaves each slot, and so the name that it watches
+abbrev pub OthersLeaveSlots : Type 0
+OthersLeaveSlots = (fetched : Fetches) (scene : Scene) (line : List ℕ)
+    → of_line changes_a_slot (command line) ≡ false
+    → (step fetched scene line).scene.slots ≡ scene.slots
+
+-- a line that reads a slot which watches a name is answered by the measure of what the name's value is then
+abbrev pub ReadsTellMeasures : Type 0
+ReadsTellMeasures = (fetched : Fetches) (scene : Scene) (line name : List ℕ) (k : ℤ) (kind : Measure)
+    → command line ≡ Ok (commands.Read k)
+    → slot_at scene k ≡ Some (Watches kind name)
+    → (step fetched scene line).reply ≡ Measured (measure_of kind (value scene name))
+
+-- and it is refused where the slot reads nothing
+abbrev pub NothingIsRead : Type 0
+NothingIsRead = (fetched : Fetches) (scene : Scene) (line : List ℕ) (k : ℤ)
+    → command line ≡ Ok (commands.Read k)
+    → reading scene k ≡ None
+    → (step fetched scene line).reply ≡ No Meter
+
+-- a line that hands a free meter to a name that stands is answered by the measure of what the name's value is then, and from then on
+-- the slot watches the name
+abbrev pub HandoversTellMeasures : Type 0
+HandoversTellMeasures = (fetched : Fetches) (scene : Scene) (line name : List ℕ) (k : ℤ) (kind : Measure)
+    → command line ≡ Ok (commands.Meter k name)
+    → stands scene name ≡ true
+    → slot_at scene k ≡ Some (Free kind)
+    → ((step fetched scene line).reply ≡ Measured (measure_of kind (value scene name)))
+    × (slot_at (step fetched scene line).scene k ≡ Some (Watches kind name))
+
+-- a line that gives up the meter of a slot which watches a name is carried out, and the slot is gone
+abbrev pub MetersAreGivenUp : Type 0
+MetersAreGivenUp = (fetched : Fetches) (scene : Scene) (line name : List ℕ) (k : ℤ) (kind : Measure)
+    → command line ≡ Ok (commands.Unmeter k)
+    → slot_at scene k ≡ Some (Watches kind name)
+    → ((step fetched scene line).reply ≡ Done)
+    × (slot_at (step fetched scene line).scene k ≡ Some Gone)
 
 -- ---- loads and saves
 

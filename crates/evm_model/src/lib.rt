@@ -28,7 +28,8 @@ ghost use Rattle.evm_model.specs.Laws.{ShiftsMoveAllCells, LiftsKeepAllCells, Op
 ghost use Rattle.evm_model.specs.Laws.{OthersStay, OthersStand, InputsStartEmpty, BoxesCombine, ReplacementsHold, DefinitionsHold, DropsTakeOut};
 ghost use Rattle.evm_model.specs.Laws.{ChangedReachName, NewNamesChangeNone, DropsChangeNone, OneNameChanges};
 ghost use Rattle.evm_model.specs.Laws.{SameFigureStays, ToggleChangesName, ToggleCountsName};
-ghost use Rattle.evm_model.specs.Laws.{EditsLeaveSlots, SlotsLeaveNames, AttachedReadsValue, ReadingsFollowEdits, GoneStays, SlotsAreFixed};
+ghost use Rattle.evm_model.specs.Laws.{EditsLeaveSlots, SlotsLeaveNames, AttachedReadsValue, ReadingsFollowEdits, GoneStays, SlotsAreFixed, NoSlotComesOrGoes};
+ghost use Rattle.evm_model.specs.Laws.{OthersLeaveSlots, ReadsTellMeasures, NothingIsRead, HandoversTellMeasures, MetersAreGivenUp};
 ghost use Rattle.evm_model.specs.Laws.{LoadsReadTheirFile, OthersReadNone, LoadsTakeFigure, MissingIsNoFile, MissingIsFetched, FormIsNoFigure};
 ghost use Rattle.evm_model.specs.Laws.{SavesPlaceValues, OnlySavesPlace, ShelfIsAsked, SavedBytesTellSolids, SavedBytesTellNames, SavedBytesLoad, SavedBoxesLoad, FiguresAreCellSets};
 ghost use Rattle.evm_model.specs.Laws.{RefusedLeavesWorld, AnswersKeepWell, RunsKeepWell, RunLeavesFiles, SavedFileIsThere, FetchedIsTold};
@@ -134,6 +135,12 @@ pub fn changes_are_counted()
 /// - `follow`: a slot that watches a name reads the measure of the value that the name has after an edit.
 /// - `gone`: a slot whose meter was given up is gone for good.
 /// - `fixed`: there are as many slots after each line as before.
+/// - `steady`: no line makes a slot or takes one out.
+/// - `others`: a line that neither hands a meter to a name nor gives one up leaves all slots, and so what each watches.
+/// - `read`: `read` of a slot that watches a name answers the measure of the value that the name has then.
+/// - `unread`: of any other slot it is refused.
+/// - `handed`: `meter` of a free slot and a name that stands answers the measure of the name's value then, and the slot watches it.
+/// - `given_up`: `unmeter` of a slot that watches a name is carried out, and the slot is gone.
 pub fn meters_watch_names()
     ensures edits { EditsLeaveSlots }
     ensures names { SlotsLeaveNames }
@@ -141,6 +148,12 @@ pub fn meters_watch_names()
     ensures follow { ReadingsFollowEdits }
     ensures gone { GoneStays }
     ensures fixed { SlotsAreFixed }
+    ensures steady { NoSlotComesOrGoes }
+    ensures others { OthersLeaveSlots }
+    ensures read { ReadsTellMeasures }
+    ensures unread { NothingIsRead }
+    ensures handed { HandoversTellMeasures }
+    ensures given_up { MetersAreGivenUp }
 {}
 
 /// Loads read files.
