@@ -154,8 +154,7 @@ unfolding step
 handovers_tell fetched scene line name k kind e s h =
     let made : step fetched scene line ≡ record { reply = read_off (reading (attached scene k name) k); scene = attached scene k name; placed = None } =
     ap (line_turn fetched scene) e
-    ∙ ap₂ (λ (b : Bool) (o : Option Slot). handed_on ((not b, Name) ∷ (not (slot_is_free o), Meter) ∷ []) scene (read_off (reading (attached scene k name) k)) (attached scene k name)) s h in
-    (
+    ∙ ap₂ (λ (b : Bool) (o : Option Slot). handed_on ((not b, Name) ∷ (not (slot_is_free o), Meter) ∷ []) scene (read_off (reading (attached scene k name) k)) (attached scene k name)) s h in (
       ap (λ (t : Turn). t.reply) made ∙ ap read_off (attached_reads scene k name kind h),
       ap (λ (t : Turn). slot_at t.scene k) made ∙ slot_after scene k (Free kind) (handed name (slot_at scene k)) h ∙ ap (λ (o : Option Slot). Some (handed name o)) h,
     )

@@ -4,8 +4,7 @@
 //! that the program does is in [`evm_main`], over any source, sink and shelf of files; `main` makes the real ones.
 #![tactic(auto)]
 
-ghost use Rattle.std.specs.Prelude.{◌≡◌, ◌∷◌, [], ℕ, map, IfOk, None, Some};
-ghost use Rattle.std.specs.List.{slice_get};
+ghost use Rattle.std.specs.Prelude.{◌≡◌, ◌∷◌, [], map, IfOk};
 ghost use Rattle.evm_cells.specs.Localities.{Content, Boundary, VertexCount};
 ghost use Rattle.evm_meter.specs.Meters.{measure_named};
 
@@ -42,9 +41,7 @@ fn words_of(rt: &HostRuntime) -> Result<Vec<String>, Status> {
 /// The meters of the program: two of each kind, so that slots 0 and 3 read content, 1 and 4 boundary content, 2 and 5 the number of
 /// extreme vertices.
 fn stock_meters(alloc: Global) -> Result<Vec<StockMeter>, AllocError>
-    ensures fresh { IfOk result (λ made. (k : ℕ) (m : StockMeter) → slice_get made.items k ≡ Some m
-        → (m.reading ≡ None) × (m.pending ≡ None)) }
-    ensures kinds { IfOk result (λ made. map (λ m. measure_named m.kind) made.items
+    ensures { IfOk result (λ made. map (λ m. measure_named m.kind) made.items
         ≡ Content ∷ Boundary ∷ VertexCount ∷ Content ∷ Boundary ∷ VertexCount ∷ []) }
 {
     Ok(vec![in alloc;

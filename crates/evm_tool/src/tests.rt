@@ -4,9 +4,6 @@ mod failing;
 mod files;
 mod meters;
 
-ghost use Rattle.std.specs.Prelude.{◌≡◌, ℕ, None, Some};
-ghost use Rattle.std.specs.List.{slice_get};
-
 use super::stock_meters;
 use super::take::{PIECE, SCRIPT_LIMIT};
 use super::top::{Status, evm_main};
@@ -68,8 +65,7 @@ fn run_over<M: Meter>(
     script: Vec<u8>,
     shelf: &mut MemShelf,
     meters: Vec<M>,
-) -> Result<(Status, MemSink), Fail>
-{
+) -> Result<(Status, MemSink), Fail> {
     let words = words_of(alloc, &["evm", "run"])?;
     let mut input = MemSource::new(script, PIECE, Vec::new(alloc));
     let mut output = MemSink::new(alloc, 4096, Vec::new(alloc))?;
@@ -111,8 +107,7 @@ fn expect_with<M: Meter>(
     script: &str,
     replies: &str,
     end: Status,
-) -> Result<(), Fail>
-{
+) -> Result<(), Fail> {
     let alloc = rt.alloc();
     let script_bytes = lines_of(alloc, script)?.into_bytes();
     let (status, output) = run_over(alloc, script_bytes, shelf, meters)?;

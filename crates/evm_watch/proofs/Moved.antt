@@ -128,12 +128,14 @@ parts_are whole delta before gained lost after lo hi dd r db eb da ea dl el dg e
       part = eb;
       part_changed = ea ∙ ap (λ (k : ℕ). xor_cells k (cells_of before) (cells k delta.rows)) db ∙ ap (λ A. xor_cells n A D) eb
           ∙ changed_part n lo hi (cells_of whole) D (cell_set-cells n whole.rows) (cell_set-cells n delta.rows) h;
-      comes = (dg ∙ dl ∙ sym da,
-      eg ∙ ap (λ A. xor_cells lost.dim A (cells lost.dim delta.rows)) goes
-      ∙ ap (λ (k : ℕ). xor_cells k (and_cells m S E) (cells k delta.rows)) dl
-      ∙ gained_part m S E s e
-      ∙ ap (λ A. sub_cells m A S) (sym ea)
-      ∙ ap (λ (k : ℕ). sub_cells k (cells_of after) S) (sym da));
+      comes = (
+        dg ∙ dl ∙ sym da,
+        eg ∙ ap (λ A. xor_cells lost.dim A (cells lost.dim delta.rows)) goes
+            ∙ ap (λ (k : ℕ). xor_cells k (and_cells m S E) (cells k delta.rows)) dl
+            ∙ gained_part m S E s e
+            ∙ ap (λ A. sub_cells m A S) (sym ea)
+            ∙ ap (λ (k : ℕ). sub_cells k (cells_of after) S) (sym da),
+      );
       goes = (dl, goes ∙ lost_part m S E s e ∙ ap (sub_cells m S) (sym ea));
     }
 

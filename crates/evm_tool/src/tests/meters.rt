@@ -1,7 +1,5 @@
 //! Runs with meters: those of the program, one that counts in another way, and one that has no memory at a stated call.
 
-ghost use Rattle.std.specs.Prelude.{◌≡◌, ℕ, IfOk, None, Some};
-ghost use Rattle.std.specs.List.{slice_get};
 ghost use Rattle.evm_cells.specs.Localities.{VertexCount};
 
 use super::super::top::Status;
@@ -73,24 +71,18 @@ impl Meter for RowCounter {
     }
 }
 
-/// One meter that counts rows.
-fn row_counters(alloc: Global) -> Result<Vec<RowCounter>, AllocError>
-    ensures { IfOk result (λ made. (k : ℕ) (m : RowCounter) → slice_get made.items k ≡ Some m
-        → (m.reading ≡ None) × (m.pending ≡ None)) }
-{
+/// One meter that counts rows, and comes with readings of its own.
+fn row_counters(alloc: Global) -> Result<Vec<RowCounter>, AllocError> {
     Ok(vec![in alloc;
         RowCounter {
-            reading: None,
-            pending: None
+            reading: Some(7),
+            pending: Some(8)
         },
     ]?)
 }
 
 /// Two meters of content. The first has no memory at its second call of `begin` or `prepare`, the second always has some.
-fn failing_meters(alloc: Global) -> Result<Vec<FailingMeter>, AllocError>
-    ensures { IfOk result (λ made. (k : ℕ) (m : FailingMeter) → slice_get made.items k ≡ Some m
-        → (m.reading ≡ None) × (m.pending ≡ None)) }
-{
+fn failing_meters(alloc: Global) -> Result<Vec<FailingMeter>, AllocError> {
     let second = vec![in alloc; 1usize]?;
     Ok(vec![in alloc;
         FailingMeter::new(Kind::Content, second),
@@ -130,9 +122,9 @@ fn any_meters_are_taken_and_one_that_fails_changes_nothing(rt: HostRuntime) -> R
         &rt,
         &mut no_files(alloc),
         row_counters(alloc)?,
-        "input a 2 / meter 0 a / add a 0 0 1 1 / add a 1 0 2 1 / add a 0 1 1 2 / read 0",
-        "ok 0 / ok 0 / ok 1 / ok 1 / ok 1 / ok 6",
-        Status::Done,
+        "input a 2 / read 0 / meter 0 a / add a 0 0 1 1 / add a 1 0 2 1 / add a 0 1 1 2 / read 0",
+        "ok 0 / no meter / ok 0 / ok 1 / ok 1 / ok 1 / ok 6",
+        Status::Refused,
     )?;
     expect_with(
         &rt,
