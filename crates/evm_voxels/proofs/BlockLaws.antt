@@ -14,11 +14,11 @@ use Rattle.evm_voxels.specs.declared.grid.Grid.{Grid}
 use Rattle.evm_formats.specs.VoxelLaws.{listed}
 use Rattle.evm_voxels.specs.Parity.{turns, grid, seam, edge}
 use Rattle.evm_voxels.specs.Marks.{bit_on}
-use Rattle.evm_voxels.specs.Grids.{filled_in}
+use Rattle.evm_voxels.specs.Grids.{filled_in, filled_flat}
 use Rattle.evm_voxels.specs.Blocks.{table, line_of, places, planes, columns}
 use Rattle.evm_voxels.proofs.GridLines.{bit_one, turns_three, none_before_z, size_no, seam_off_y}
 use Rattle.evm_voxels.proofs.Layers.{flat_map-more}
-use Rattle.evm_voxels.proofs.GridRows.{no_heads}
+use Rattle.evm_voxels.proofs.GridRows.{no_heads, flat_line}
 use Rattle.evm_voxels.proofs.Marking.{no_bit}
 use Rattle.evm_voxels.proofs.Windows.{bit_on-xor}
 
@@ -249,3 +249,34 @@ columns_all g n out e h =
 
 pub clear_line : (k z n : ℕ) (line : List ℕ) → line ≡ replicate n 0 → z < n → bit_on k (slice_index line z) ≡ false
 clear_line k z n line e l = ap (λ (xs : List ℕ). bit_on k (slice_index xs z)) e ∙ ap (bit_on k) (get_or-replicate n z 0 0 l) ∙ no_bit k
+
+-- ---- one image, whose rows are the images of a grid of height 1
+
+table_parts : (h d : ℕ) (g : List ℤ → Bool) → table (h ∷ d ∷ []) g ≡ table (d ∷ []) (λ c. g (pos 0 ∷ c)) ++ flat_map (λ y. table (d ∷ []) (λ c. g (y ∷ c))) (ints (pos 1) h)
+unfolding table ints
+table_parts h d g = refl
+
+-- the first of the lines of words
+pub first_line : (k h d : ℕ) (g : List ℤ → Bool) (words front : List ℕ) → front ≡ take (d + 1) words → map (bit_on k) words ≡ table (h ∷ d ∷ []) g → map (bit_on k) front ≡ table (d ∷ []) (λ c. g (pos 0 ∷ c))
+first_line k h d g words front e b =
+    let line : List Bool = table (d ∷ []) (λ c. g (pos 0 ∷ c)) in
+    let later : List Bool = flat_map (λ y. table (d ∷ []) (λ c. g (y ∷ c))) (ints (pos 1) h) in
+    let long : length line ≡ suc d = length-line (λ c. g (pos 0 ∷ c)) d in
+    ap (map (bit_on k)) e ∙ sym (take-map (bit_on k) (d + 1) words) ∙ ap (take (d + 1)) (b ∙ table_parts h d g)
+    ∙ take-append-le (d + 1) line later (omega arith) ∙ take_all (d + 1) line (omega arith)
+
+pub two_lines : (h l : ℕ) → h ≡ 1 → l ≤ (h + 1) * l
+two_lines h l e = rw e (omega arith)
+
+-- the rows of a column of the image
+pub column_are : (g : Grid) (x k : ℕ) (words : List ℕ) → g.height ≡ 1 → map (bit_on k) words ≡ table (g.depth ∷ []) (λ c. turns (filled_in g) (pos x ∷ pos 0 ∷ c))
+    → places (map (bit_on k) words) 0 ≡ grid (g.depth ∷ []) (λ c. turns (filled_flat g) (pos x ∷ c))
+column_are g x k words one b =
+    ap (λ (bs : List Bool). places bs 0) b ∙ places-table (λ c. turns (filled_in g) (pos x ∷ pos 0 ∷ c)) g.depth ∙ flat_line g (pos x) one
+
+pub image_columns_all : (g : Grid) (n : ℕ) (out : List ℤ) → n ≡ g.width + 1 → out ≡ columns (g.depth ∷ []) (turns (filled_flat g)) n
+    → out ≡ [] ++ flat_of (map (λ t. [] ++ t) (grid (g.width ∷ g.depth ∷ []) (turns (filled_flat g))))
+unfolding columns listed
+image_columns_all g n out e h =
+    h ∙ ap (λ (k : ℕ). columns (g.depth ∷ []) (turns (filled_flat g)) k) (let q : n ≡ suc g.width = omega arith in q)
+    ∙ ap flat_of (sym (no_heads (grid (g.width ∷ g.depth ∷ []) (turns (filled_flat g)))))

@@ -73,7 +73,7 @@ unfolding listed
 line_same d f h e = ap (λ (t : ℤ → Bool). flat_map (λ z. map (λ r. z ∷ r) (cond (t z) ([] ∷ []) [])) (ints (pos 0) (suc d))) (λ i z. e z i)
 
 -- the points of a line of one image
-flat_line : (g : Grid) (x : ℤ) → g.height ≡ 1 → grid (g.depth ∷ []) (λ c. turns (filled_in g) (x ∷ pos 0 ∷ c)) ≡ grid (g.depth ∷ []) (λ c. turns (filled_flat g) (x ∷ c))
+pub flat_line : (g : Grid) (x : ℤ) → g.height ≡ 1 → grid (g.depth ∷ []) (λ c. turns (filled_in g) (x ∷ pos 0 ∷ c)) ≡ grid (g.depth ∷ []) (λ c. turns (filled_flat g) (x ∷ c))
 flat_line g x e = line_same g.depth (λ c. turns (filled_in g) (x ∷ pos 0 ∷ c)) (λ c. turns (filled_flat g) (x ∷ c)) (λ z. flat_turns g x z e)
 
 pub flat_step : (g : Grid) (n : ℕ) (longer out new : List ℤ) → g.height ≡ 1 → out ≡ [] ++ flat_of (map (λ t. [] ++ t) (layers (g.depth ∷ []) (turns (filled_flat g)) n)) → longer ≡ [] ++ pos n ∷ []

@@ -6,7 +6,7 @@ ghost use Rattle.evm_cells.specs.Vertices.{evm};
 ghost use Rattle.evm_voxels.specs.Parity.{turns, grid, seam};
 ghost use Rattle.evm_voxels.specs.Marks.{bit_on};
 ghost use Rattle.evm_voxels.specs.Blocks.{table, line_of, places, planes, columns};
-ghost use Rattle.evm_voxels.specs.Grids.{filled_in};
+ghost use Rattle.evm_voxels.specs.Grids.{filled_in, filled_flat};
 
 use crate::grid::Grid;
 use crate::narrow::append_if;
@@ -156,6 +156,54 @@ pub fn wide_vertices(alloc: Global, of: &Grid<'_>) -> Result<Vec<i32>, AllocErro
         fill_block(&mut words, &mut last, of, first)?;
         let count = (of.width + 1 - first).min(32);
         append_block(&mut out, &words, of, first, count)?;
+        first += count;
+    }
+    Ok(out)
+}
+
+// Appends the rows of `count` columns of an image from `first` on, of which these are the words.
+fn append_columns(
+    out: &mut Vec<i32>,
+    words: &[u32],
+    of: &Grid<'_>,
+    first: usize,
+    count: usize,
+) -> Result<(), AllocError>
+    requires few { count ≤ 32 }
+    requires within { first + count ≤ of.now.width + 1 }
+    requires one { of.now.height ≡ 1 }
+    requires long { length words.now ≡ of.now.depth + 1 }
+    requires words { (k : ℕ) → k < 32 → map (bit_on k) words.now
+        ≡ table (of.now.depth ∷ []) (λ c. turns (filled_in of.now) (pos (first + k) ∷ pos 0 ∷ c)) }
+    ensures { OnOk result (out.old.items ≡ columns (of.now.depth ∷ []) (turns (filled_flat of.now)) first
+        → out.new.items ≡ columns (of.now.depth ∷ []) (turns (filled_flat of.now)) (first + count)) }
+{
+    for k in 0..count {
+        let head = [(first + k) as i32];
+        append_bits(out, &head, words, k as u32)?;
+    }
+    Ok(())
+}
+
+/// The same of one image, whose rows are the images of a grid of height 1. Takes memory for two words of 32 bits for each
+/// row of the grid's points, and for one more. The one error is want of memory.
+pub fn wide_image(alloc: Global, of: &Grid<'_>) -> Result<Vec<i32>, AllocError>
+    requires some { 0 < of.now.width }
+    requires width { of.now.width ≤ limit 2 }
+    requires height { of.now.height ≡ 1 }
+    requires depth { of.now.depth ≤ limit 2 }
+    ensures { IfOk result (λ v. v.items ≡ flat_of (evm 2 (cells_where 2 (filled_flat of.now)))) }
+{
+    let line = of.depth + 1;
+    let mut out = Vec::new(alloc);
+    let mut words = Vec::with_capacity(alloc, 2 * line)?;
+    let mut last = vec![in alloc; 0u32; line]?;
+    let mut first = 0;
+    while first <= of.width {
+        fill_block(&mut words, &mut last, of, first)?;
+        let count = (of.width + 1 - first).min(32);
+        let (row, _) = words.split_at(line);
+        append_columns(&mut out, row, of, first, count)?;
         first += count;
     }
     Ok(out)

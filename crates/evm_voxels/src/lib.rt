@@ -40,7 +40,8 @@ use std::alloc::Global;
 /// `Shape`, a second image in dimension 2, or another size than the first one's; `Short`, too few bytes. `Kind` never comes.
 ///
 /// No memory is taken before all images have passed. Beside the bytes and the solid it is then one bit for each sample of an
-/// image, rounded up to words of 32 bits, and from 32 columns on one such word for each row and image of the points.
+/// image, rounded up to words of 32 bits, and from 4 columns on one such word for each row and image of the points, in
+/// dimension 2 two for each row.
 pub fn read_pgm(
     alloc: Global,
     dim: usize,

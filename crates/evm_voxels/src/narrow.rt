@@ -4,7 +4,7 @@ ghost use Rattle.evm_cells.specs.Limits.{cells_where, limit};
 ghost use Rattle.evm_cells.specs.Vertices.{evm};
 ghost use Rattle.evm_rows.specs.Rows.{flat_of};
 ghost use Rattle.evm_voxels.specs.Parity.{turns, grid};
-ghost use Rattle.evm_voxels.specs.Grids.{filled_in};
+ghost use Rattle.evm_voxels.specs.Grids.{filled_in, filled_flat};
 
 use crate::grid::Grid;
 use std::alloc::{AllocError, Global};
@@ -27,8 +27,8 @@ pub fn append_if(
     Ok(())
 }
 
-/// Appends a row for each point of odd parity on the line of the points (x, y, z): the head, and then z.
-pub fn append_line(
+// Appends a row for each point of odd parity on the line of the points (x, y, z): the head, and then z.
+fn append_line(
     out: &mut Vec<i32>,
     head: &[i32],
     places: &Grid<'_>,
@@ -61,7 +61,8 @@ fn append_column(out: &mut Vec<i32>, places: &Grid<'_>, x: usize) -> Result<(), 
     Ok(())
 }
 
-/// The coordinates of the extreme vertices of the filled places of a grid, ascending.
+/// The coordinates of the extreme vertices of the filled places of a grid, ascending. Takes memory for them alone. The one
+/// error is want of memory.
 pub fn narrow_vertices(alloc: Global, places: &Grid<'_>) -> Result<Vec<i32>, AllocError>
     requires width { places.now.width ≤ limit 3 }
     requires height { places.now.height ≤ limit 3 }
@@ -71,6 +72,23 @@ pub fn narrow_vertices(alloc: Global, places: &Grid<'_>) -> Result<Vec<i32>, All
     let mut out = Vec::new(alloc);
     for x in 0..places.width + 1 {
         append_column(&mut out, places, x)?;
+    }
+    Ok(out)
+}
+
+/// The same of one image, whose rows are the images of a grid of height 1. Takes memory for the coordinates alone. The one
+/// error is want of memory.
+pub fn narrow_image(alloc: Global, places: &Grid<'_>) -> Result<Vec<i32>, AllocError>
+    requires width { places.now.width ≤ limit 2 }
+    requires height { places.now.height ≡ 1 }
+    requires depth { places.now.depth ≤ limit 2 }
+    ensures { IfOk result
+        (λ v. v.items ≡ flat_of (evm 2 (cells_where 2 (filled_flat places.now)))) }
+{
+    let mut out = Vec::new(alloc);
+    for x in 0..places.width + 1 {
+        let head = [x as i32];
+        append_line(&mut out, &head, places, x, 0)?;
     }
     Ok(out)
 }

@@ -5,13 +5,13 @@ ghost use Rattle.evm_cells.specs.Vertices.{evm};
 ghost use Rattle.evm_rows.specs.Rows.{flat_of};
 ghost use Rattle.evm_voxels.specs.Grids.{filled_in, filled_flat};
 
-use crate::blocks::wide_vertices;
+use crate::blocks::{wide_image, wide_vertices};
 use crate::grid::Grid;
-use crate::narrow::{append_line, narrow_vertices};
+use crate::narrow::{narrow_image, narrow_vertices};
 use std::alloc::{AllocError, Global};
 
-/// The least width at which a block of columns takes less memory than the samples.
-const WIDE: usize = 32;
+/// The least width at which a block of columns takes about as little memory as the samples.
+const WIDE: usize = 4;
 
 /// The coordinates of the extreme vertices of the filled places of a grid, ascending. A narrow grid takes no memory beside
 /// them.
@@ -36,10 +36,9 @@ pub fn image_vertices(alloc: Global, places: &Grid<'_>) -> Result<Vec<i32>, Allo
     ensures { IfOk result
         (λ v. v.items ≡ flat_of (evm 2 (cells_where 2 (filled_flat places.now)))) }
 {
-    let mut out = Vec::new(alloc);
-    for x in 0..places.width + 1 {
-        let head = [x as i32];
-        append_line(&mut out, &head, places, x, 0)?;
+    if places.width < WIDE {
+        narrow_image(alloc, places)
+    } else {
+        wide_image(alloc, places)
     }
-    Ok(out)
 }

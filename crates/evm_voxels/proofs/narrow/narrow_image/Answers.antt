@@ -3,7 +3,7 @@ use Rattle.evm_voxels.specs.Parity.{turns}
 use Rattle.evm_voxels.specs.Grids.{filled_flat}
 use Rattle.evm_voxels.proofs.Layers.{layers_none, layers_done, head_is}
 use Rattle.evm_voxels.proofs.GridRows.{image_done, flat_step}
-use Rattle.evm_voxels.proofs.vertices.image_vertices.Goals as goal
+use Rattle.evm_voxels.proofs.narrow.narrow_image.Goals as goal
 
 pub loop-x-init : goal.loop-x-init
 loop-x-init c = c.new-out.ensures.items ∙ layers_none (c.args.places.now.depth ∷ []) (turns (filled_flat c.args.places.now)) [] []
