@@ -323,6 +323,8 @@ pub fn read_frame(
     ensures room { IfOk result (λ f. size.height * size.width ≡ length f.luma.bytes.now) }
     ensures narrow { IfOk result (λ f. f.luma.wide ≡ false) }
     ensures number { IfOk result (λ f. number < limit dim) }
+    ensures small { IfOk result (λ f. number < 2 ^ 30) }
+    ensures shorter { IfOk result (λ f. length f.rest.now < length bytes.now) }
 {
     let Some(planes) = planes_of(bytes) else {
         return Err(VoxelError::Header);

@@ -1,9 +1,7 @@
-use Rattle.std.proofs.Common.{rules, ◌≡◌, ◌*◌, ◌<◌, length, Err, arith, sym}
+use Rattle.std.proofs.Common.{rules, ◌*◌, arith, sym}
 use Rattle.std.proofs.lemmas.Bool.Decides.{nat_tests}
-use Rattle.evm_formats.specs.Y4m.{frames_of}
-use Rattle.evm_formats.proofs.Lengths.{frame_takes, frames-take}
+use Rattle.evm_formats.proofs.Lengths.{frames-take}
 use Rattle.evm_voxels.specs.Streams.{stream_of, frame_of}
-use Rattle.evm_formats.proofs.Limits.{limit_small}
 use Rattle.evm_voxels.proofs.Marking.{words_fit}
 use Rattle.evm_voxels.proofs.Frames.{takes_of, whole_of, frames_refused, frames_marked_all}
 use Rattle.evm_voxels.proofs.Walking.{marked_none, marked_next}
@@ -18,17 +16,8 @@ loop-rest-init c =
 
 pub returns-in_err-frame-clause-refused : goal.returns-in_err-frame-clause-refused
 returns-in_err-frame-clause-refused c =
-    let some : 0 < length c.loop-rest.rest.now = grind (arith, nat_tests) in
-    let h : frames_of c.args.dim (stream_of c.args.of) ≡ Err c.in_err-frame.field-0.0 =
-    frames_refused c.args.dim (stream_of c.args.of) c.loop-rest.number c.loop-rest.rest.now c.in_err-frame.field-0.0 c.loop-rest.invariant.marked.passed some (sym c.in_err-frame.ensures.exact) in
+    let h = frames_refused c.args.dim (stream_of c.args.of) c.loop-rest.number c.loop-rest.rest.now c.in_err-frame.field-0.0 c.loop-rest.invariant.marked.passed (grind (arith, nat_tests)) (sym c.in_err-frame.ensures.exact) in
     search rules
-
-pub overflow_add-number : goal.overflow_add-number
-overflow_add-number c = let h = c.in_ok-frame.ensures.number in omega (arith, limit_small c.args.dim)
-
-pub loop-rest-smaller : goal.loop-rest-smaller
-loop-rest-smaller c =
-    omega (arith, frame_takes c.args.dim c.loop-rest.number c.args.of.size.width c.args.of.size.height c.args.of.extra c.loop-rest.rest.now (frame_of c.in_ok-frame.frame) (sym c.in_ok-frame.ensures.exact))
 
 pub loop-rest-preserved : goal.loop-rest-preserved
 loop-rest-preserved c =
