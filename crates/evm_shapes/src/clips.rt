@@ -16,7 +16,7 @@ use crate::order::{lone_rows, reduced};
 use evm_rows::{NoMemory, Rows, Solid, own, split_row};
 use std::alloc::{AllocError, Global};
 
-// The number, moved between the two.
+/// The number, moved between the two: the nearer of them where it is not between. Takes no memory.
 #[tactic(auto, unfolding(evm_cells::specs::Windows::between))]
 pub(crate) fn between(x: i32, lo: i32, hi: i32) -> i32
     ensures { result ≡ between lo hi x }

@@ -9,7 +9,8 @@ ghost use Rattle.evm_shapes.specs.Keys.{number_of, unpacked, room, IsPut};
 use evm_rows::split_row;
 use std::alloc::{AllocError, Global};
 
-// The word of 32 bits that stands for a number in a key: its sign bit is flipped, so that words are ordered as numbers are.
+/// The word of 32 bits that stands for a number in a key: its sign bit is flipped, so that words are ordered as numbers are.
+/// Takes no memory.
 pub(crate) fn word_of(x: i32) -> u128
     ensures small { result < 2 ^ 32 }
     ensures number { number_of result ≡ x }
@@ -30,7 +31,8 @@ fn key_of(row: &[i32]) -> u128
     key
 }
 
-// Adds a key, or takes the last away where that is the same.
+/// Adds a key, or takes the last away where that is the same. Takes memory only where the list has no room left; the one
+/// error is want of memory.
 pub(crate) fn put(keys: &mut Vec<u128>, key: u128) -> Result<(), AllocError>
     ensures { OnOk result (IsPut keys.old.items key keys.new.items) }
 {
