@@ -15,6 +15,7 @@ use Rattle.evm_cells.proofs.Core.{cells-evm}
 use Rattle.evm_cells.proofs.Combine.{cell_set-xor}
 use Rattle.evm_rows.specs.Rows.{Vertices, cells_of, xor_rows}
 use Rattle.evm_boolean.specs.declared.boolean.Op2.{Op2}
+use Rattle.evm_tiles.proofs.Showing.{same_cells_none}
 use Rattle.evm_delta.specs.Changes.{follows_left, follows_right, left_change, right_change, change_vertices, after_change}
 use Rattle.evm_delta.specs.Hulls.{AgreesOn}
 use Rattle.evm_delta.proofs.Deltas.{has-none, xor_rows_is, both_is}
@@ -123,6 +124,12 @@ pub left_near_is : (op : Op2) (da b db v x part : Vertices) → b.dim ≡ da.dim
 unfolding after_change
 left_near_is op da b db v x part eb ed ev h xd xc e =
     e ∙ left_agrees op da (after_change b db) x eb (xd ∙ ev ∙ eb) (agrees_after da b db v x ev (ed ∙ sym eb) h xd xc)
+
+-- v has what b has near the change, and b stays
+pub left_near_stays : (op : Op2) (da b db v part : Vertices) → db.rows ≡ [] → b.dim ≡ da.dim → db.dim ≡ da.dim → v.dim ≡ b.dim → AgreesOn da b v → part ≡ left_change op da v → part ≡ left_change op da (after_change b db)
+left_near_stays op da b db v part r eb ed ev h e =
+    left_near_is op da b db v v part eb ed ev h refl
+    (same_cells_none v db r ∙ ap (λ (m : ℕ). xor_cells v.dim (cells_of v) (cells m db.rows)) (ed ∙ sym (ev ∙ eb))) e
 
 pub near_is : (op : Op2) (a da b db l r s : Vertices) → da.dim ≡ a.dim → b.dim ≡ a.dim → db.dim ≡ a.dim → l ≡ left_change op da (after_change b db) → r ≡ right_change op a db
     → s.dim ≡ l.dim → s.rows ≡ xor_rows l.dim l.rows r.rows → s ≡ change_vertices op a da b db

@@ -3,7 +3,7 @@ ghost use Rattle.std.specs.Prelude.{◌≡◌, IfOk};
 ghost use Rattle.evm_rows.specs.View.{vertices_of};
 ghost use Rattle.evm_delta.specs.Changes.{after_change, change_vertices, left_change, right_change, IsChange, Carries};
 
-use crate::flat::{left_change, right_change};
+use crate::flat::{just_one, left_change, right_change};
 use crate::hulls::near;
 use evm_boolean::Op2;
 use evm_rows::{NoMemory, Rows, Solid, xor};
@@ -30,6 +30,10 @@ fn left_near(
         return Ok(none);
     }
     let before = near(alloc, b, da)?;
+    if db.len() == 0 {
+        let same = left_change(alloc, op, da, before.rows())?;
+        return Ok(same);
+    }
     let after = xor(alloc, before.rows(), db)?;
     let part = left_change(alloc, op, da, after.rows())?;
     Ok(part)
@@ -85,6 +89,6 @@ pub fn delta2(
     }
     let left = left_near(alloc, op, da, b, db)?;
     let right = right_near(alloc, op, a, db)?;
-    let made = xor(alloc, left.rows(), right.rows())?;
+    let made = just_one(alloc, left, right)?;
     Ok(made)
 }

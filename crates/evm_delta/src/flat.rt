@@ -1,11 +1,12 @@
 // The parts of a Boolean's change, from solids that are lists of rows.
 
 ghost use Rattle.std.specs.Prelude.{◌≡◌, IfOk};
+ghost use Rattle.evm_rows.specs.Rows.{xor_rows};
 ghost use Rattle.evm_rows.specs.View.{vertices_of};
 ghost use Rattle.evm_delta.specs.Changes.{left_change, right_change};
 
 use evm_boolean::{Op2, and, sub};
-use evm_rows::{NoMemory, Rows, Solid, own};
+use evm_rows::{NoMemory, Rows, Solid, own, xor};
 use std::alloc::Global;
 
 /// Where a change of the left operand changes the value, with the right operand as it will be.
@@ -42,4 +43,22 @@ pub(crate) fn right_change(
         Op2::Sub => and(alloc, db, a),
         Op2::Xor => own(alloc, db),
     }
+}
+
+/// The cells of just one of two parts. Where one part has no rows the answer is the other, and no row is copied.
+pub(crate) fn just_one(alloc: Global, a: Solid, b: Solid) -> Result<Solid, NoMemory>
+    requires { b.dim ≡ a.dim }
+    ensures dim { IfOk result (λ s. s.dim ≡ a.dim) }
+    ensures rows { IfOk result (λ s. s.rows ≡ xor_rows a.dim a.rows b.rows) }
+{
+    a.facts();
+    b.facts();
+    if b.len() == 0 {
+        return Ok(a);
+    }
+    if a.len() == 0 {
+        return Ok(b);
+    }
+    let made = xor(alloc, a.rows(), b.rows())?;
+    Ok(made)
 }

@@ -12,7 +12,7 @@ use Rattle.evm_tiles.specs.declared.node.Node.{Node}
 use Rattle.evm_tiles.specs.Trees.{node_cells}
 use Rattle.evm_tiles.specs.Shown.{tiles_shown}
 use Rattle.evm_tiles.proofs.Trees.{cell_set-node}
-use Rattle.evm_tiles.proofs.Parts.{xor_right_none}
+use Rattle.evm_tiles.proofs.Parts.{xor_right_none, xor_other}
 
 -- the cells that a tree shows are its cells
 pub shown_cells : (n : ℕ) (x : Node) → cells_of (tiles_shown n x) ≡ node_cells n x
@@ -65,3 +65,7 @@ no_rows (p ∷ V) e = absurd (omega arith)
 -- a test of rows, when none is left
 pub none_left : (t : List ℤ → Bool) (R A : List (List ℤ)) → R ≡ [] → list_all t R ≡ list_all t A → true ≡ list_all t A
 none_left t R A e h = sym (ap (list_all t) e) ∙ h
+
+-- the two in the other order
+pub xor_rows_other : (n : ℕ) (V W : List (List ℤ)) → xor_rows n V W ≡ xor_rows n W V
+xor_rows_other n V W = xor_rows_are n V W ∙ ap (evm n) (xor_other n (cells n V) (cells n W) (cell_set-cells n V) (cell_set-cells n W)) ∙ sym (xor_rows_are n W V)

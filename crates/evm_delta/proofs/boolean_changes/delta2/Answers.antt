@@ -28,18 +28,18 @@ returns-then-eq-clause-cells c = change_is c.args.op c.args.a.now (vertices_of c
 pub returns-then-eq-clause-carries : goal.returns-then-eq-clause-carries
 returns-then-eq-clause-carries c = change_carries c.args.op c.args.a.now (vertices_of c.args.da) c.args.b.now (vertices_of c.args.db) c.in_ok-made.made (returns-then-eq-clause-vertices c)
 
-pub xor-requires-2 : goal.xor-requires-2
-xor-requires-2 c =
+pub just_one-requires : goal.just_one-requires
+just_one-requires c =
     let da : Vertices = vertices_of c.args.da in
     let db : Vertices = vertices_of c.args.db in
-    let l : (vertices_of c.rows.result).dim ≡ da.dim = ap (λ (v : Vertices). v.dim) c.rows.ensures ∙ left_dim c.args.op da (after_change c.args.b.now db) c.in_ok-left.left c.in_ok-left.ensures in
-    let r : (vertices_of c.rows-2.result).dim ≡ db.dim = ap (λ (v : Vertices). v.dim) c.rows-2.ensures ∙ right_dim c.args.op c.args.a.now db c.in_ok-right.right c.in_ok-right.ensures in
-    l ∙ c.requires.left ∙ sym (r ∙ c.requires.right)
+    let l = left_dim c.args.op da (after_change c.args.b.now db) c.in_ok-left.left c.in_ok-left.ensures in
+    let r = right_dim c.args.op c.args.a.now db c.in_ok-right.right c.in_ok-right.ensures in
+    r ∙ c.requires.right ∙ sym (l ∙ c.requires.left)
 
 pub returns-clause-vertices : goal.returns-clause-vertices
 returns-clause-vertices c =
-    near_is c.args.op c.args.a.now (vertices_of c.args.da) c.args.b.now (vertices_of c.args.db) (vertices_of c.rows.result) (vertices_of c.rows-2.result) c.in_ok-made-2.made
-    c.requires.left c.requires.other c.requires.right (c.rows.ensures ∙ c.in_ok-left.ensures) (c.rows-2.ensures ∙ c.in_ok-right.ensures) c.in_ok-made-2.ensures.dim c.in_ok-made-2.ensures.rows
+    near_is c.args.op c.args.a.now (vertices_of c.args.da) c.args.b.now (vertices_of c.args.db) c.in_ok-left.left c.in_ok-right.right c.in_ok-made-2.made
+    c.requires.left c.requires.other c.requires.right c.in_ok-left.ensures c.in_ok-right.ensures c.in_ok-made-2.ensures.dim c.in_ok-made-2.ensures.rows
 
 pub returns-clause-cells : goal.returns-clause-cells
 returns-clause-cells c = change_is c.args.op c.args.a.now (vertices_of c.args.da) c.args.b.now (vertices_of c.args.db) c.in_ok-made-2.made (returns-clause-vertices c)
