@@ -123,3 +123,11 @@ between_of n axis at low high h = record {
   low = lt_is (neg_ℤ (pos (limit n))) at h.above_least;
   high = lt_is at (pos (limit n)) h.below_most;
 }
+
+pub leaf_count : (s : Vertices) (most : ℕ) (x : Node) → x ≡ Leaf s most → node_count x ≡ 1
+unfolding node_count
+leaf_count s most x e = ap node_count e
+
+pub cut_count : (axis : ℕ) (at : ℤ) (low high : Rc Node Global) (x : Node) → x ≡ Cut axis at low high → node_count x ≡ suc (node_count low.value + node_count high.value)
+unfolding node_count
+cut_count axis at low high x e = ap node_count e

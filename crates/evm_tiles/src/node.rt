@@ -1,13 +1,13 @@
 //! Nodes of a tree of tiles.
 
 ghost use Rattle.evm_cells.specs.Windows.{is_under, is_over};
-ghost use Rattle.std.specs.Prelude.{◌≡◌, ◌<◌, ◌≤◌, true, length, IfOk, IfSome};
+ghost use Rattle.std.specs.Prelude.{◌≡◌, ◌<◌, ◌≤◌, ◌+◌, suc, true, length, IfOk, IfSome};
 ghost use Rattle.std.specs.List.{list_all};
 ghost use Rattle.evm_cells.specs.Boxes.{is_box};
 ghost use Rattle.evm_rows.specs.Rows.{cells_of};
 ghost use Rattle.evm_rows.specs.View.{vertices_of};
-ghost use Rattle.evm_tiles.specs.Trees.{node_cells, node_window, is_well, IsBoth, IsChanged, IsOne};
-ghost use Rattle.evm_cutting.specs.Cuts.{IsBetween};
+ghost use Rattle.evm_tiles.specs.Trees.{node_cells, node_window, node_count, is_well, IsBoth, IsChanged, IsOne};
+ghost use Rattle.evm_cutting.specs.Cuts.{IsBetween, cells_under, cells_over};
 ghost use Rattle.evm_tiles.specs.Splits.{IsApart};
 
 use crate::solids::{Side, both, side_of};
@@ -21,7 +21,7 @@ use std::rc::Rc;
 const LEAF: usize = 128;
 
 /// How often a leaf is cut again at most.
-const DEEP: usize = 64;
+pub(crate) const DEEP: usize = 64;
 
 /// A tile: a leaf with the part of the solid inside it, or a cut of it in two.
 #[derive(Drop)]
@@ -101,6 +101,7 @@ impl Node {
 fn leaf(alloc: Global, solid: Solid, most: usize) -> Result<Rc<Node>, NoMemory>
     ensures well { IfOk result (λ t. is_well solid.dim t.value ≡ true) }
     ensures cells { IfOk result (λ t. node_cells solid.dim t.value ≡ cells_of solid) }
+    ensures count { IfOk result (λ t. node_count t.value ≡ 1) }
 {
     let node = Rc::new(alloc, Node::Leaf { solid, most })?;
     Ok(node)
@@ -122,6 +123,8 @@ fn cut(
     requires high { is_well _dim high.value ≡ true }
     ensures well { IfOk result (λ t. is_well _dim t.value ≡ true) }
     ensures cells { IfOk result (λ t. IsBoth _dim t.value low.value high.value) }
+    ensures count { IfOk result
+        (λ t. node_count t.value ≡ suc (node_count low.value + node_count high.value)) }
 {
     let node = Rc::new(
         alloc,
@@ -185,6 +188,29 @@ fn joined(
     }
 }
 
+/// The tree of a solid from the trees of its two sides.
+fn of_sides(
+    alloc: Global,
+    solid: &Solid,
+    axis: usize,
+    at: i32,
+    low: Rc<Node>,
+    high: Rc<Node>,
+) -> Result<Rc<Node>, NoMemory>
+    requires between { IsBetween solid.now.dim axis at }
+    requires under { node_cells solid.now.dim low.value ≡ cells_under axis at solid.now }
+    requires over { node_cells solid.now.dim high.value ≡ cells_over axis at solid.now }
+    requires low { is_well solid.now.dim low.value ≡ true }
+    requires high { is_well solid.now.dim high.value ≡ true }
+    ensures well { IfOk result (λ t. is_well solid.now.dim t.value ≡ true) }
+    ensures cells { IfOk result (λ t. node_cells solid.now.dim t.value ≡ cells_of solid.now) }
+    ensures count { IfOk result
+        (λ t. node_count t.value ≡ suc (node_count low.value + node_count high.value)) }
+{
+    let node = cut(alloc, solid.dim(), axis, at, low, high)?;
+    Ok(node)
+}
+
 /// The tree of a solid, whose leaves have at most `most` rows where they can be cut.
 pub(crate) fn grown(
     alloc: Global,
@@ -206,7 +232,7 @@ pub(crate) fn grown(
             let next = made.axis + 1;
             let low = grown(alloc, made.low, LEAF, next, fuel - 1)?;
             let high = grown(alloc, made.high, LEAF, next, fuel - 1)?;
-            let node = cut(alloc, solid.dim(), made.axis, made.at, low, high)?;
+            let node = of_sides(alloc, &solid, made.axis, made.at, low, high)?;
             Ok(node)
         }
         None => {
@@ -221,6 +247,7 @@ pub(crate) fn grown(
 pub(crate) fn planted(alloc: Global, solid: Solid) -> Result<Rc<Node>, NoMemory>
     ensures well { IfOk result (λ t. is_well solid.dim t.value ≡ true) }
     ensures cells { IfOk result (λ t. node_cells solid.dim t.value ≡ cells_of solid) }
+    ensures count { IfOk result (λ t. node_count t.value ≡ 1) }
 {
     let node = leaf(alloc, solid, LEAF)?;
     Ok(node)
@@ -246,6 +273,46 @@ fn plane_between(low: Rows<'_>, high: Rows<'_>) -> Option<i32>
     }
 }
 
+/// Whether one solid is seen to lie beyond another on the first axis, by their first and last rows.
+fn is_beyond(a: Rows<'_>, b: Rows<'_>) -> bool
+    requires { (vertices_of b).dim ≡ (vertices_of a).dim }
+{
+    plane_between(a, b).is_some() || plane_between(b, a).is_some()
+}
+
+/// A leaf that has more rows than it may, cut in two, so that the change goes on to the side that it meets, and the other side stays
+/// one leaf until an edit meets it. None where the leaf has no more rows, the change lies beyond it, or no plane serves.
+fn opened(
+    alloc: Global,
+    solid: &Solid,
+    most: usize,
+    d: &Solid,
+    first: usize,
+    fuel: usize,
+) -> Result<Option<Rc<Node>>, NoMemory>
+    requires { d.now.dim ≡ solid.now.dim }
+    ensures well { IfOk result
+        (λ o. IfSome o (λ t. is_well solid.now.dim t.value ≡ true)) }
+    ensures cells { IfOk result
+        (λ o. IfSome o (λ t. node_cells solid.now.dim t.value ≡ cells_of solid.now)) }
+    ensures count { IfOk result (λ o. IfSome o (λ t. node_count t.value ≡ 3)) }
+    ensures fuel { IfOk result (λ o. IfSome o (λ _. 0 < fuel)) }
+{
+    if solid.len() <= most || fuel == 0 || is_beyond(solid.rows(), d.rows()) {
+        return Ok(None);
+    }
+    let halves = halved(alloc, solid, first)?;
+    match halves {
+        Some(made) => {
+            let low = planted(alloc, made.low)?;
+            let high = planted(alloc, made.high)?;
+            let node = of_sides(alloc, solid, made.axis, made.at, low, high)?;
+            Ok(Some(node))
+        }
+        None => Ok(None),
+    }
+}
+
 /// A leaf with a change. A change that lies beyond a leaf that was never cut is set beside it by a cut, so that the leaf is shared.
 fn leaf_changed(
     alloc: Global,
@@ -253,6 +320,7 @@ fn leaf_changed(
     solid: &Solid,
     most: usize,
     d: &Solid,
+    first: usize,
 ) -> Result<Rc<Node>, NoMemory>
     requires dim { solid.now.dim ≡ d.now.dim }
     requires well { is_well d.now.dim tree.now.value ≡ true }
@@ -275,19 +343,31 @@ fn leaf_changed(
         }
     }
     let all = both(alloc, solid, d)?;
-    let node = grown(alloc, all, most, 0, DEEP)?;
+    let node = grown(alloc, all, most, first, DEEP)?;
     Ok(node)
 }
 
-/// A tree with a change. What the change does not meet is shared.
-pub(crate) fn changed(alloc: Global, tree: &Rc<Node>, d: &Solid) -> Result<Rc<Node>, NoMemory>
+/// A tree with a change. What the change does not meet is shared. Leaves are cut from the axis `first` on, counted from 0, and a leaf
+/// with more rows than it may have toward the change, at most `fuel` times on one way.
+pub(crate) fn changed(
+    alloc: Global,
+    tree: &Rc<Node>,
+    d: &Solid,
+    first: usize,
+    fuel: usize,
+) -> Result<Rc<Node>, NoMemory>
     requires { is_well d.now.dim tree.now.value ≡ true }
     ensures well { IfOk result (λ t. is_well d.now.dim t.value ≡ true) }
     ensures cells { IfOk result (λ t. IsChanged tree.now.value d.now t.value) }
 {
     match &**tree {
         Node::Leaf { solid, most } => {
-            let node = leaf_changed(alloc, tree, solid, *most, d)?;
+            let halves = opened(alloc, solid, *most, d, first, fuel)?;
+            if let Some(open) = halves {
+                let node = changed(alloc, &open, d, first, fuel - 1)?;
+                return Ok(node);
+            }
+            let node = leaf_changed(alloc, tree, solid, *most, d, first)?;
             Ok(node)
         }
         Node::Cut {
@@ -297,22 +377,22 @@ pub(crate) fn changed(alloc: Global, tree: &Rc<Node>, d: &Solid) -> Result<Rc<No
             high,
         } => match side_of(d.rows(), *axis, *at) {
             Side::Below => {
-                let below = changed(alloc, low, d)?;
+                let below = changed(alloc, low, d, axis.saturating_add(1), fuel)?;
                 let above = high.clone()?;
                 let node = joined(alloc, d.dim(), *axis, *at, below, above)?;
                 Ok(node)
             }
             Side::Above => {
                 let below = low.clone()?;
-                let above = changed(alloc, high, d)?;
+                let above = changed(alloc, high, d, axis.saturating_add(1), fuel)?;
                 let node = joined(alloc, d.dim(), *axis, *at, below, above)?;
                 Ok(node)
             }
             Side::Both => {
                 let first = under(alloc, d.rows(), *axis, *at)?;
                 let second = over(alloc, d.rows(), *axis, *at)?;
-                let below = changed(alloc, low, &first)?;
-                let above = changed(alloc, high, &second)?;
+                let below = changed(alloc, low, &first, axis.saturating_add(1), fuel)?;
+                let above = changed(alloc, high, &second, axis.saturating_add(1), fuel)?;
                 let node = joined(alloc, d.dim(), *axis, *at, below, above)?;
                 Ok(node)
             }

@@ -8,7 +8,7 @@ ghost use Rattle.evm_rows.specs.Rows.{cells_of, IsSolid};
 ghost use Rattle.evm_rows.specs.View.{vertices_of};
 ghost use Rattle.evm_tiles.specs.Shown.{window_cells, section_cells, just_one, just_one_rows};
 
-use crate::node::{Node, changed, planted};
+use crate::node::{DEEP, Node, changed, planted};
 use evm_rows::{DIM_MAX, NoMemory, Rows, Solid, limit, own};
 use evm_shapes::slice;
 use std::alloc::Global;
@@ -136,7 +136,7 @@ impl Tiles {
             let made = self.share()?;
             return Ok(made);
         }
-        let root = changed(alloc, &self.root, d)?;
+        let root = changed(alloc, &self.root, d, 0, DEEP)?;
         Ok(Tiles { dim, root })
     }
 

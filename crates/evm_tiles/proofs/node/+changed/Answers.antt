@@ -1,6 +1,6 @@
 use Rattle.evm_cells.specs.Windows.{is_under, is_over}
 use Rattle.evm_cells.proofs.Sides.{two_sides, cell_set-part}
-use Rattle.std.proofs.Common.{arith, rules, ◌≡◌, ◌-◌, ◌<ℤ◌, ℕ, ℤ, List, true, pos, neg_ℤ, filter, refl, sym, ap, ap₂, ◌∙◌, subst, ltb-true, w32, to_z, of_z, SFits}
+use Rattle.std.proofs.Common.{arith, rules, ◌≡◌, ◌-◌, ◌<◌, ◌<ℤ◌, ℕ, IfSome, ℤ, List, true, pos, neg_ℤ, filter, refl, sym, ap, ap₂, ◌∙◌, subst, ltb-true, w32, to_z, of_z, SFits}
 use Rattle.std.specs.List.{list_all}
 use Rattle.evm_cells.specs.Booleans.{xor_cells}
 use Rattle.evm_cells.specs.Limits.{limit}
@@ -11,8 +11,36 @@ use Rattle.evm_rows.proofs.BoxTests.{same32}
 use Rattle.evm_cutting.specs.Cuts.{IsBetween}
 use Rattle.evm_tiles.specs.Trees.{node_cells, node_count, is_well}
 use Rattle.evm_tiles.proofs.Parts.{change_first, change_second, change_both, all-xor}
-use Rattle.evm_tiles.proofs.Trees.{halves, between_of, cut_cells, leaf_dim, leaf_cells, low_smaller, high_smaller, cell_set-node}
+use Rattle.evm_tiles.proofs.Trees.{halves, between_of, cut_cells, leaf_dim, leaf_cells, leaf_count, low_smaller, high_smaller, cell_set-node}
 use Rattle.evm_tiles.proofs.node.+changed.Goals as goal
+
+pub opened-requires : goal.opened-requires
+opened-requires t c =
+    let n : ℕ = c.args.d.now.dim in
+    sym (leaf_dim n c.deref.result.now c.in-Leaf.solid c.in-Leaf.most c.in-Leaf.is (ap (is_well n) c.deref.ensures ∙ c.requires))
+
+pub changed-requires : goal.changed-requires
+changed-requires t c =
+    let n : ℕ = c.args.d.now.dim in
+    let e : c.in-Leaf.solid.dim ≡ n = leaf_dim n c.deref.result.now c.in-Leaf.solid c.in-Leaf.most c.in-Leaf.is (ap (is_well n) c.deref.ensures ∙ c.requires) in
+    let three : node_count c.in-Some.open.value ≡ 3 = subst (λ o. IfSome o (λ y. node_count y.value ≡ 3)) c.in-Some.is c.in_ok-halves-in-Leaf.ensures.count in
+    let more : 0 < c.args.fuel = subst (λ o. IfSome o (λ y. 0 < c.args.fuel)) c.in-Some.is c.in_ok-halves-in-Leaf.ensures.fuel in
+    let one : node_count c.deref.result.now ≡ 1 = leaf_count c.in-Leaf.solid c.in-Leaf.most c.deref.result.now c.in-Leaf.is in
+    let d = c.decreases in (
+      let g = ap node_count c.deref.ensures in omega (arith, three, more, one, d, g),
+      ap (λ (m : ℕ). is_well m c.in-Some.open.value) (sym e) ∙ subst (λ o. IfSome o (λ y. is_well c.in-Leaf.solid.dim y.value ≡ true)) c.in-Some.is c.in_ok-halves-in-Leaf.ensures.well,
+    )
+
+pub returns-in-Some-clause-cells : goal.returns-in-Some-clause-cells
+returns-in-Some-clause-cells t c =
+    let n : ℕ = c.args.d.now.dim in
+    let w : is_well n c.deref.result.now ≡ true = ap (is_well n) c.deref.ensures ∙ c.requires in
+    let e : c.in-Leaf.solid.dim ≡ n = leaf_dim n c.deref.result.now c.in-Leaf.solid c.in-Leaf.most c.in-Leaf.is w in
+    let same : node_cells c.in-Leaf.solid.dim c.in-Some.open.value ≡ cells_of c.in-Leaf.solid =
+    subst (λ o. IfSome o (λ y. node_cells c.in-Leaf.solid.dim y.value ≡ cells_of c.in-Leaf.solid)) c.in-Some.is c.in_ok-halves-in-Leaf.ensures.cells in
+    c.in_ok-node-in-Leaf.ensures.cells
+    ∙ ap (λ X. xor_cells n X (cells_of c.args.d.now))
+    (ap (λ (m : ℕ). node_cells m c.in-Some.open.value) (sym e) ∙ same ∙ sym (leaf_cells n c.deref.result.now c.in-Leaf.solid c.in-Leaf.most c.in-Leaf.is w) ∙ ap (node_cells n) c.deref.ensures)
 
 pub leaf_changed-requires : goal.leaf_changed-requires
 leaf_changed-requires t c =
@@ -32,8 +60,8 @@ side_of-requires t c =
     let a = ltb-true c.in-Cut.axis n h.fits in
     omega (arith, a, d)
 
-pub changed-requires : goal.changed-requires
-changed-requires t c =
+pub changed-requires-in-Below : goal.changed-requires-in-Below
+changed-requires-in-Below t c =
     let n : ℕ = c.args.d.now.dim in
     let h = halves n c.deref.result.now c.in-Cut.axis c.in-Cut.at c.in-Cut.low c.in-Cut.high c.in-Cut.is (ap (is_well n) c.deref.ensures ∙ c.requires) in
     let f = low_smaller c.deref.result.now c.in-Cut.low.value c.in-Cut.axis c.in-Cut.at c.in-Cut.low c.in-Cut.high c.in-Cut.is refl in

@@ -1,7 +1,7 @@
 use Rattle.std.proofs.Common.{ℤ, ap, ◌∙◌}
 use Rattle.evm_rows.proofs.BoxTests.{same32}
 use Rattle.evm_tiles.specs.declared.node.Node.TheVariants.{Cut}
-use Rattle.evm_tiles.proofs.Trees.{cut_well, cut_cells}
+use Rattle.evm_tiles.proofs.Trees.{cut_well, cut_cells, cut_count}
 use Rattle.evm_tiles.proofs.node.cut.Goals as goal
 
 pub returns-clause-well : goal.returns-clause-well
@@ -12,4 +12,9 @@ returns-clause-well c =
 pub returns-clause-cells : goal.returns-clause-cells
 returns-clause-cells c =
     cut_cells c.args._dim _ c.args.axis c.args.at c.args.low c.args.high
+    (c.in_ok-node.ensures.ok ∙ ap (λ (z : ℤ). Cut c.args.axis z c.args.low c.args.high) (same32 c.args.at c.ranges.at))
+
+pub returns-clause-count : goal.returns-clause-count
+returns-clause-count c =
+    cut_count c.args.axis c.args.at c.args.low c.args.high _
     (c.in_ok-node.ensures.ok ∙ ap (λ (z : ℤ). Cut c.args.axis z c.args.low c.args.high) (same32 c.args.at c.ranges.at))
