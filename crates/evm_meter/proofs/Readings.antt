@@ -1,16 +1,18 @@
 -- Readings are small, and what a change near by leaves of them.
-use Rattle.std.proofs.Common.{◌≡◌, ℕ, zero, suc, ◌+◌, ◌-◌, ◌*◌, ◌^◌, ◌<◌, ◌≤◌, List, length, filter, ℤ, pos, neg_ℤ, Option, Some, sym, ap, ap₂, ◌∙◌, arith}
-use Rattle.evm_cells.specs.Limits.{limit, point_coords, every_point, IsCellSet}
+use Rattle.std.proofs.Common.{◌≡◌, ℕ, zero, suc, ◌+◌, ◌-◌, ◌*◌, ◌^◌, ◌<◌, ◌≤◌, Bool, true, false, not, cond, ◌&&◌, List, [], ◌∷◌, length, filter, ℤ, pos, neg_ℤ, Option, Some, refl, sym, ap, ap₂, ◌∙◌, arith, subst}
+use Rattle.evm_cells.specs.Places.{has}
+use Rattle.evm_cells.specs.Limits.{limit, point_coords, every_point, every_cell, IsCellSet}
+use Rattle.evm_cells.specs.Booleans.{combine, sub_cells}
 use Rattle.evm_cells.specs.Vertices.{odd, around, evm, cells, IsVertexList}
 use Rattle.evm_cells.specs.Measures.{content, boundary, vertex_count}
 use Rattle.evm_cells.specs.Shapes.{clip}
 use Rattle.evm_cells.specs.Localities.{Measure, Content, Boundary, VertexCount, measure}
 use Rattle.evm_cells.proofs.Core.{evm-cells}
 use Rattle.evm_cells.proofs.Bounds.{length-ints, length-tuples, filter-shorter, content-fits, boundary-fits}
-use Rattle.evm_cells.proofs.Universe.{cell_set-cells}
+use Rattle.evm_cells.proofs.Universe.{cells_are, cell_set-cells}
 use Rattle.evm_cells.proofs.Localities.{measures_are_local}
 use Rattle.evm_rows.specs.Rows.{Vertices}
-use Rattle.evm_meter.specs.Meters.{measured, IsNearChange}
+use Rattle.evm_meter.specs.Meters.{measured, IsLess, IsNearChange}
 
 -- ---- how large a reading can be
 
@@ -49,6 +51,36 @@ measured_fits kind a l = measure_fits kind a.dim (cells a.dim a.rows) l (cell_se
 -- the rows of a view are the extreme vertices of its cells
 pub rows_counted : (a : Vertices) → IsVertexList a.dim a.rows → length a.rows ≡ measured VertexCount a
 rows_counted a v = ap length (sym (evm-cells a.dim a.rows v))
+
+-- ---- what comes and what goes
+
+-- of two tests, what passes the one and what passes the other alone are as many as the other way round
+counts : {X : Type 0} (f g : X → Bool) (xs : List X) → length (filter (λ x. g x && not (f x)) xs) + length (filter f xs) ≡ length (filter (λ x. f x && not (g x)) xs) + length (filter g xs)
+counts f g [] = refl
+counts f g (x ∷ xs) = at (f x) (g x) (counts f g xs)
+  where
+    at : (a b : Bool) → length (filter (λ y. g y && not (f y)) xs) + length (filter f xs) ≡ length (filter (λ y. f y && not (g y)) xs) + length (filter g xs)
+        → length (cond (b && not a) (x ∷ filter (λ y. g y && not (f y)) xs) (filter (λ y. g y && not (f y)) xs)) + length (cond a (x ∷ filter f xs) (filter f xs))
+        ≡ length (cond (a && not b) (x ∷ filter (λ y. f y && not (g y)) xs) (filter (λ y. f y && not (g y)) xs)) + length (cond b (x ∷ filter g xs) (filter g xs))
+    at true true e = omega (arith, e)
+    at true false e = omega (arith, e)
+    at false true e = omega (arith, e)
+    at false false e = e
+
+-- the content grows by what comes and shrinks by what goes
+pub content_moves : (before gained lost after : Vertices) → after.dim ≡ before.dim → IsLess after before gained → IsLess before after lost
+    → measured Content gained + measured Content before ≡ measured Content lost + measured Content after
+unfolding sub_cells combine
+content_moves before gained lost after d comes goes =
+    let n : ℕ = before.dim in
+    let A : List (List ℤ) = cells before.dim before.rows in
+    let B : List (List ℤ) = cells after.dim after.rows in
+    let a : IsCellSet n A = cell_set-cells before.dim before.rows in
+    let b : IsCellSet n B = subst (λ (m : ℕ). IsCellSet m B) d (cell_set-cells after.dim after.rows) in
+    let more : cells gained.dim gained.rows ≡ sub_cells n B A = comes.1 ∙ ap (λ (m : ℕ). sub_cells m B A) d in
+    ap₂ (λ (S T : List (List ℤ)). length S + length T) more (sym (cells_are n A a.ascends a.cells))
+    ∙ counts (has A) (has B) (every_cell n)
+    ∙ sym (ap₂ (λ (S T : List (List ℤ)). length S + length T) goes.1 (sym (cells_are n B b.ascends b.cells)))
 
 -- ---- a change near by
 

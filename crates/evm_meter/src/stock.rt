@@ -1,6 +1,6 @@
 //! The meters that measure anew what they are handed.
 
-ghost use Rattle.std.specs.Prelude.{◌≡◌, ◌<◌, ◌^◌, ℕ, true, pos, None, Some, is_some, option_map, IfOk, OnOk, OnErr};
+ghost use Rattle.std.specs.Prelude.{◌≡◌, ◌<◌, ◌+◌, ◌^◌, ℕ, true, pos, None, Some, is_some, option_map, IfOk, OnOk, OnErr};
 ghost use Rattle.evm_rows.specs.View.{vertices_of};
 ghost use Rattle.evm_meter.specs.Meters.{measure_named, measured, IsLess, IsNearChange, is_few, moved_by};
 
@@ -10,9 +10,10 @@ use std::alloc::Global;
 
 /// A meter that measures the parts of a change anew, and keeps the sum. It keeps no rows: its two readings are numbers.
 ///
-/// To begin takes the memory of a measure of the whole solid, and to prepare that of a measure of the part before a change and
-/// then of the part after it: for content and boundary content two sections a level of the dimension, as `evm_measure` says, and for
-/// the number of extreme vertices none. It is given back before the call returns. No reading overflows: each is below `2^127`.
+/// To begin takes the memory of a measure of the whole solid, and to prepare that of two measures, one after the other: for content of
+/// what goes and what comes, for boundary content of the part before a change and the part after it, two sections a level of the
+/// dimension, as `evm_measure` says; for the number of extreme vertices none. It is given back before the call returns. No reading
+/// overflows: each is below `2^127`.
 #[derive(Drop)]
 pub struct StockMeter {
     /// What it measures.
@@ -35,6 +36,38 @@ fn reading_of(kind: Kind, alloc: Global, solid: Rows<'_>) -> Result<u128, NoMemo
         Kind::Content => evm_measure::content(alloc, solid),
         Kind::Boundary => evm_measure::boundary(alloc, solid),
         Kind::Vertices => Ok(solid.len() as u128),
+    }
+}
+
+// By how much a reading shrinks and grows at a change. The content shrinks by what goes and grows by what comes, which are no larger
+// than the change; of the other kinds the whole parts are measured.
+fn change_of(
+    kind: Kind,
+    alloc: Global,
+    before: Rows<'_>,
+    gained: Rows<'_>,
+    lost: Rows<'_>,
+    after: Rows<'_>,
+) -> Result<(u128, u128), NoMemory>
+    requires gained { IsLess (vertices_of after) (vertices_of before) (vertices_of gained) }
+    requires lost { IsLess (vertices_of before) (vertices_of after) (vertices_of lost) }
+    requires same_dim { (vertices_of after).dim ≡ (vertices_of before).dim }
+    ensures change { IfOk result
+        (λ by. by.1 + measured (measure_named kind) (vertices_of before.entry)
+        ≡ by.0 + measured (measure_named kind) (vertices_of after.entry)) }
+    ensures few { IfOk result (λ by. by.1 < 2 ^ 127) }
+{
+    match kind {
+        Kind::Content => {
+            let less = reading_of(kind, alloc, lost)?;
+            let more = reading_of(kind, alloc, gained)?;
+            Ok((less, more))
+        }
+        Kind::Boundary | Kind::Vertices => {
+            let less = reading_of(kind, alloc, before)?;
+            let more = reading_of(kind, alloc, after)?;
+            Ok((less, more))
+        }
     }
 }
 
@@ -103,14 +136,13 @@ impl Meter for StockMeter {
         &mut self,
         alloc: Global,
         before: Rows<'_>,
-        _gained: Rows<'_>,
-        _lost: Rows<'_>,
+        gained: Rows<'_>,
+        lost: Rows<'_>,
         after: Rows<'_>,
     ) -> Result<(), NoMemory> {
-        let was = reading_of(self.kind, alloc, before)?;
-        let now = reading_of(self.kind, alloc, after)?;
+        let (less, more) = change_of(self.kind, alloc, before, gained, lost, after)?;
         match self.reading {
-            Some(reading) => self.pending = Some(reading + now - was),
+            Some(reading) => self.pending = Some(reading + more - less),
             None => unreachable!(),
         }
         Ok(())
