@@ -10,7 +10,7 @@ ghost use Rattle.evm_formulas.specs.Operations.{shape_of, shape_stays};
 ghost use Rattle.evm_formulas.specs.Changes.{after_of, IsChange, Moves};
 
 use super::shapes::shape_change;
-use super::solids::{change, changed, exclusive_or, is_none, none, stays, tree_of};
+use super::solids::{change, changed, exclusive_or, is_none, none, stays};
 use evm_boolean::Op2;
 use evm_delta::{DeltaError, Op1};
 use evm_rows::{NoMemory, Solid};
@@ -26,7 +26,7 @@ pub struct Change {
     pub after: Tiles,
 }
 
-/// The change of a solid to another. Takes memory for the rows of both, and for the change.
+/// The change of a solid to another. Takes memory for the rows of the one before, and for the change.
 pub fn changed_to(alloc: Global, own: &Tiles, after: Solid) -> Result<Change, NoMemory>
     requires { after.dim ≡ own.now.dim }
     ensures after { IfOk result (λ c. c.after ≡ after) }
@@ -34,7 +34,7 @@ pub fn changed_to(alloc: Global, own: &Tiles, after: Solid) -> Result<Change, No
 {
     let before = own.to_rows(alloc)?;
     let delta = exclusive_or(alloc, &before, &after)?;
-    let after = tree_of(alloc, &after)?;
+    let after = Tiles::from_solid(alloc, after)?;
     Ok(Change { delta, after })
 }
 

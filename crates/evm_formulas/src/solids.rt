@@ -72,11 +72,12 @@ pub fn changed(alloc: Global, own: &Tiles, delta: &Solid) -> Result<Tiles, NoMem
         (λ t. ¬ (cells delta.now.dim delta.now.rows ≡ [])
         → same_figure (figure_of own.now) (figure_of t) ≡ false) }
 {
-    let made = own.xor(alloc, delta.rows())?;
+    let made = own.xor_solid(alloc, delta)?;
     Ok(made)
 }
 
-/// A Boolean of two solids, made anew. Takes memory for the rows of both, and for the answer.
+/// A Boolean of two solids, made anew: where it is the exclusive or, by one merge of their rows. Takes memory for the rows of both,
+/// and for the answer.
 pub fn combine(alloc: Global, op: Op2, a: &Tiles, b: &Tiles) -> Result<Solid, NoMemory>
     requires { b.now.dim ≡ a.now.dim }
     ensures value { IfOk result
@@ -85,8 +86,13 @@ pub fn combine(alloc: Global, op: Op2, a: &Tiles, b: &Tiles) -> Result<Solid, No
 {
     let left = a.to_rows(alloc)?;
     let right = b.to_rows(alloc)?;
-    let made = evm_boolean::combine(alloc, op, left.rows(), right.rows())?;
-    Ok(made)
+    match op {
+        Op2::Xor => exclusive_or(alloc, &left, &right),
+        _ => {
+            let made = evm_cutting::combine(alloc, op, left.rows(), right.rows())?;
+            Ok(made)
+        }
+    }
 }
 
 /// The change of a Boolean whose operands change by `da` and `db`, looked for near the two.

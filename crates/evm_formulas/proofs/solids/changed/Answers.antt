@@ -1,5 +1,4 @@
-use Rattle.std.proofs.Common.{ap, ◌∙◌}
-use Rattle.evm_rows.specs.View.{vertices_of}
+use Rattle.std.proofs.Common.{refl, ap, ◌∙◌}
 use Rattle.evm_model.specs.Figures.{same_figure}
 use Rattle.evm_formulas.specs.Stated.{figure_of}
 use Rattle.evm_formulas.proofs.Figures.{figure_set, changed_made, xor_same, xor_moves}
@@ -7,7 +6,7 @@ use Rattle.evm_formulas.proofs.solids.changed.Goals as goal
 
 pub returns-clause-value : goal.returns-clause-value
 returns-clause-value c =
-    changed_made c.args.own.now c.args.delta.now (vertices_of c.rows.result) c.in_ok-made.made c.rows.ensures c.in_ok-made.ensures.dim c.in_ok-made.ensures.cells
+    changed_made c.args.own.now c.args.delta.now c.args.delta.now c.in_ok-made.made refl c.in_ok-made.ensures.dim c.in_ok-made.ensures.cells
 
 pub returns-clause-same : goal.returns-clause-same
 returns-clause-same c none = returns-clause-value c ∙ xor_same (figure_of c.args.own.now) (figure_of c.args.delta.now) none (figure_set c.args.own.now)
