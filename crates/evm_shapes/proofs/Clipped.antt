@@ -10,6 +10,7 @@ use Rattle.evm_cells.specs.Shapes.{clip}
 use Rattle.evm_cells.specs.Vertices.{evm, cells, IsVertexList}
 use Rattle.evm_cells.specs.Windows.{between, clamped, IsReduced}
 use Rattle.evm_cells.proofs.Clamping.{length-clamped, clip_by_rows}
+use Rattle.evm_cells.proofs.Insides.{box_lengths}
 use Rattle.evm_cells.proofs.Lists.{all_weaker}
 use Rattle.evm_cells.proofs.Coords.{strict_ints}
 use Rattle.evm_cells.proofs.Order.{refuted}
@@ -17,6 +18,7 @@ use Rattle.evm_cells.proofs.Places.{strict_places}
 use Rattle.evm_cells.proofs.Universe.{point_parts, xsum-same_place}
 use Rattle.evm_cells.proofs.Xor.{odd-count, and_first, and_second}
 use Rattle.evm_rows.specs.Rows.{rows_of, flat_of}
+use Rattle.evm_rows.proofs.Bridge.{wide-points}
 use Rattle.evm_rows.proofs.RowsOrder.{Wide, rows_of-flat_of, length-flat_of}
 use Rattle.evm_shapes.specs.Moves.{stays_in}
 
@@ -72,6 +74,13 @@ clamped_rows n lo hi V flat some e g u f =
       ap (λ (z : List ℤ). length z % n) f ∙ ap (λ (k : ℕ). k % n) (length-flat_of n (map (clamped lo hi) V) w) ∙ mul-mod_left (length (map (clamped lo hi) V)) n,
       ap (λ (z : List ℤ). rows_of z n 0) f ∙ rows_of-flat_of n (map (clamped lo hi) V) some w,
     )
+
+-- a list that began empty, with the moved rows of a vertex list
+pub moved_rows_are : (n : ℕ) (lo hi : List ℤ) (V : List (List ℤ)) (start flat : List ℤ) → 0 < n → is_box n lo hi ≡ true → IsVertexList n V → start ≡ [] → flat ≡ start ++ flat_of (map (clamped lo hi) V)
+    → (length flat % n ≡ 0) × (rows_of flat n 0 ≡ map (clamped lo hi) V)
+moved_rows_are n lo hi V start flat some box v e f =
+    let l = box_lengths n lo hi box in
+    clamped_rows n lo hi V flat some l.0 l.1 (wide-points n V v.points) (f ∙ ap (λ (u : List ℤ). u ++ flat_of (map (clamped lo hi) V)) e)
 
 -- ---- rows that stay where they are
 

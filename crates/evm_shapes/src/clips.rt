@@ -1,5 +1,5 @@
 // What is inside a box, by rows that are moved into it.
-ghost use Rattle.std.specs.Prelude.{◌≡◌, [], ◌++◌, ◌%◌, length, map, get_or, pos, true, IfOk, OnOk};
+ghost use Rattle.std.specs.Prelude.{◌≡◌, ◌<◌, [], ◌++◌, ◌%◌, length, map, get_or, pos, true, IfOk, OnOk};
 ghost use Rattle.std.specs.List.{list_all};
 ghost use Rattle.evm_cells.specs.Boxes.{is_box};
 ghost use Rattle.evm_cells.specs.Vertices.{evm};
@@ -18,7 +18,7 @@ use std::alloc::{AllocError, Global};
 
 /// The number, moved between the two: the nearer of them where it is not between. Takes no memory.
 #[tactic(auto, unfolding(evm_cells::specs::Windows::between))]
-pub(crate) fn between(x: i32, lo: i32, hi: i32) -> i32
+fn between(x: i32, lo: i32, hi: i32) -> i32
     ensures { result ≡ between lo hi x }
 {
     if x < lo {
@@ -30,6 +30,17 @@ pub(crate) fn between(x: i32, lo: i32, hi: i32) -> i32
     }
 }
 
+// A number of a row, moved into the box.
+pub(crate) fn moved_at(row: &[i32], lo: &[i32], hi: &[i32], k: usize) -> i32
+    requires row { k < length row.now }
+    requires low { k < length lo.now }
+    requires high { k < length hi.now }
+    ensures { result ≡ between (get_or lo.now k (pos 0)) (get_or hi.now k (pos 0))
+        (get_or row.now k (pos 0)) }
+{
+    between(row[k], lo[k], hi[k])
+}
+
 // Appends the row, moved into the box.
 fn append_clamped(out: &mut Vec<i32>, row: &[i32], lo: &[i32], hi: &[i32]) -> Result<(), AllocError>
     requires low { length lo.now ≡ length row.now }
@@ -37,7 +48,7 @@ fn append_clamped(out: &mut Vec<i32>, row: &[i32], lo: &[i32], hi: &[i32]) -> Re
     ensures { OnOk result (out.new.items ≡ out.old.items ++ clamped lo.now hi.now row.now) }
 {
     for k in 0..row.len() {
-        out.push(between(row[k], lo[k], hi[k]))?;
+        out.push(moved_at(row, lo, hi, k))?;
     }
     Ok(())
 }
@@ -120,7 +131,7 @@ fn stays(row: &[i32], lo: &[i32], hi: &[i32]) -> bool
     ensures { result ≡ stays_in lo.now hi.now row.now }
 {
     for k in 0..row.len() {
-        if between(row[k], lo[k], hi[k]) != row[k] {
+        if moved_at(row, lo, hi, k) != row[k] {
             return false;
         }
     }

@@ -9,7 +9,7 @@ ghost use Rattle.evm_shapes.specs.Keys.{unpacked, room, IsLowKeys};
 ghost use Rattle.evm_shapes.specs.Moves.{raised};
 ghost use Rattle.evm_shapes.specs.Order.{AreMoved};
 
-use crate::clips::between;
+use crate::clips::moved_at;
 use crate::keys::{put, rows_of_keys, word_of};
 use evm_rows::{Rows, split_row};
 use std::alloc::{AllocError, Global};
@@ -24,7 +24,7 @@ fn moved_key(row: &[i32], lo: &[i32], hi: &[i32]) -> u128
 {
     let mut key = 0u128;
     for k in 0..row.len() {
-        key = key * 0x1_0000_0000 + word_of(between(row[k], lo[k], hi[k]));
+        key = key * 0x1_0000_0000 + word_of(moved_at(row, lo, hi, k));
     }
     key
 }

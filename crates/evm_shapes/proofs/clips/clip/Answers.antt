@@ -1,6 +1,5 @@
-use Rattle.std.proofs.Common.{refl, ◌≡◌, ◌-◌, ℤ, List, ℕ, ap, sym, ◌∙◌, arith}
+use Rattle.std.proofs.Common.{refl, ◌-◌, ℤ, List, ℕ, ap, sym, ◌∙◌, arith}
 use Rattle.evm_cells.specs.Vertices.{evm, cells}
-use Rattle.evm_cells.specs.Shapes.{clip}
 use Rattle.evm_rows.specs.Rows.{rows_of}
 use Rattle.evm_cells.proofs.Layers.{evm-empty}
 use Rattle.evm_cells.proofs.Insides.{box_lengths, cell_set-clip}
@@ -36,30 +35,21 @@ returns-then-all_stay-clause-cells c =
 
 pub from_rows-requires : goal.from_rows-requires
 from_rows-requires c =
-    let a = c.args.a in
-    let n : ℕ = a.width - a.skip in
-    let lo = c.args.lo.now in
-    let hi = c.args.hi.now in
-    let V : List (List ℤ) = rows_of a.flat.now a.width a.skip in
-    let e : rows_of c.in_ok-flat.flat.items n 0 ≡ evm n (clip n lo hi (cells n V)) = clip_by_rows n lo hi V (rows_of c.in_ok-flat.flat.items n 0) c.requires a.vertices c.in_ok-flat.ensures.rows in
-    rw c.dim-dim.ensures (are_rows_of n _ _ (omega (arith, a.left)) (omega (arith, a.narrow)) c.in_ok-flat.ensures.whole (cell_set-clip n lo hi (cells n V)) e)
+    let n : ℕ = c.args.a.width - c.args.a.skip in
+    let V : List (List ℤ) = rows_of c.args.a.flat.now c.args.a.width c.args.a.skip in
+    let e = clip_by_rows n c.args.lo.now c.args.hi.now V (rows_of c.in_ok-flat.flat.items n 0) c.requires c.args.a.vertices c.in_ok-flat.ensures.rows in
+    rw c.dim-dim.ensures (are_rows_of n _ _ (omega (arith, c.args.a.left)) (omega (arith, c.args.a.narrow)) c.in_ok-flat.ensures.whole (cell_set-clip n c.args.lo.now c.args.hi.now (cells n V)) e)
 
 pub returns-clause-rows : goal.returns-clause-rows
 returns-clause-rows c =
-    let a = c.args.a in
-    let n : ℕ = a.width - a.skip in
-    let lo = c.args.lo.now in
-    let hi = c.args.hi.now in
-    let V : List (List ℤ) = rows_of a.flat.now a.width a.skip in
-    let e : rows_of c.in_ok-flat.flat.items n 0 ≡ evm n (clip n lo hi (cells n V)) = clip_by_rows n lo hi V (rows_of c.in_ok-flat.flat.items n 0) c.requires a.vertices c.in_ok-flat.ensures.rows in
+    let n : ℕ = c.args.a.width - c.args.a.skip in
+    let V : List (List ℤ) = rows_of c.args.a.flat.now c.args.a.width c.args.a.skip in
+    let e = clip_by_rows n c.args.lo.now c.args.hi.now V (rows_of c.in_ok-flat.flat.items n 0) c.requires c.args.a.vertices c.in_ok-flat.ensures.rows in
     c.from_rows.ensures.rows ∙ ap (λ (m : ℕ). rows_of c.in_ok-flat.flat.items m 0) c.dim-dim.ensures ∙ e
 
 pub returns-clause-cells : goal.returns-clause-cells
 returns-clause-cells c =
-    let a = c.args.a in
-    let n : ℕ = a.width - a.skip in
-    let lo = c.args.lo.now in
-    let hi = c.args.hi.now in
-    let V : List (List ℤ) = rows_of a.flat.now a.width a.skip in
-    let e : rows_of c.in_ok-flat.flat.items n 0 ≡ evm n (clip n lo hi (cells n V)) = clip_by_rows n lo hi V (rows_of c.in_ok-flat.flat.items n 0) c.requires a.vertices c.in_ok-flat.ensures.rows in
-    cells_of _ n _ _ (c.from_rows.ensures.dim ∙ c.dim-dim.ensures) (cell_set-clip n lo hi (cells n V)) (c.from_rows.ensures.rows ∙ ap (λ (m : ℕ). rows_of c.in_ok-flat.flat.items m 0) c.dim-dim.ensures ∙ e)
+    let n : ℕ = c.args.a.width - c.args.a.skip in
+    let V : List (List ℤ) = rows_of c.args.a.flat.now c.args.a.width c.args.a.skip in
+    let e = clip_by_rows n c.args.lo.now c.args.hi.now V (rows_of c.in_ok-flat.flat.items n 0) c.requires c.args.a.vertices c.in_ok-flat.ensures.rows in
+    cells_of _ n _ _ (c.from_rows.ensures.dim ∙ c.dim-dim.ensures) (cell_set-clip n c.args.lo.now c.args.hi.now (cells n V)) (c.from_rows.ensures.rows ∙ ap (λ (m : ℕ). rows_of c.in_ok-flat.flat.items m 0) c.dim-dim.ensures ∙ e)

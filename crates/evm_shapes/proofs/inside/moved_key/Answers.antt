@@ -1,6 +1,6 @@
-use Rattle.std.proofs.Common.{◌≡◌, ◌<◌, ◌∙◌, ◌++◌, ap, arith, rules, ℤ, pos, get_or, length, SFits, w32}
+use Rattle.std.proofs.Common.{◌<◌, ◌∙◌, ◌++◌, ap, arith, rules, length, SFits, w32}
 use Rattle.evm_sections.proofs.Bits.{same32}
-use Rattle.evm_cells.specs.Windows.{between, clamped}
+use Rattle.evm_cells.specs.Windows.{clamped}
 use Rattle.evm_shapes.proofs.Clipped.{clamped_all}
 use Rattle.evm_shapes.proofs.Packed.{start, key_fits, room_more}
 use Rattle.evm_shapes.proofs.Windowed.{clamped_key, key_row}
@@ -22,19 +22,12 @@ loop-k-preserved c =
     let within : c.loop-k.k < length c.args.row.now = c.loop-k-test.true in
     let below : c.loop-k.k < length c.args.lo.now = let e = c.requires.low in omega arith in
     let above : c.loop-k.k < length c.args.hi.now = let e = c.requires.high in omega arith in
-    let p : ℤ = get_or c.args.row.now c.loop-k.k (pos 0) in
-    let a : ℤ = get_or c.args.lo.now c.loop-k.k (pos 0) in
-    let b : ℤ = get_or c.args.hi.now c.loop-k.k (pos 0) in
-    let fp : SFits w32 p = search rules in
-    let fa : SFits w32 a = search rules in
-    let fb : SFits w32 b = search rules in
-    let kept : SFits w32 c.between.result = search rules in
-    let moved : c.between.result ≡ between a b p = rw (same32 p fp, same32 a fa, same32 b fb) at c.between.ensures in
+    let kept : SFits w32 c.moved_at.result = search rules in
     record {
       room = room_more c.loop-k.k c.loop-k.key c.word_of.result c.loop-k.invariant.room c.word_of.ensures.small;
       row =
-          clamped_key c.args.lo.now c.args.hi.now c.args.row.now c.loop-k.k c.loop-k.key c.word_of.result c.between.result _ below above within c.word_of.ensures.small (c.word_of.ensures.number ∙ same32 c.between.result kept)
-          moved c.loop-k.invariant.row;
+          clamped_key c.args.lo.now c.args.hi.now c.args.row.now c.loop-k.k c.loop-k.key c.word_of.result c.moved_at.result _ below above within c.word_of.ensures.small
+          (c.word_of.ensures.number ∙ same32 c.moved_at.result kept) c.moved_at.ensures c.loop-k.invariant.row;
     }
 
 pub returns-clause-row : goal.returns-clause-row
