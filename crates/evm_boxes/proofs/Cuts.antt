@@ -57,7 +57,7 @@ lt_min x b at =
     ∙ sym (and_comm (int_lt x b) (int_lt x at) ∙ absorb (int_lt x at) (int_lt x b) (λ h. let m : x <ℤ b = lt_is x b h in lt_yes x at (omega (arith, int_facts)))))
 
 -- above the greater of two numbers
-max_le : (x a at : ℤ) → int_le (int_max a at) x ≡ (int_le a x && int_le at x)
+pub max_le : (x a at : ℤ) → int_le (int_max a at) x ≡ (int_le a x && int_le at x)
 max_le x a at =
     two_ways at a
     (λ l. ap (λ t. int_le t x) (max_first a at l)
@@ -71,7 +71,7 @@ min_under b at =
     (λ l. let e : int_min b at ≡ at = min_second b at l in omega (arith, int_facts))
     (λ l. let e : int_min b at ≡ b = min_first b at l in omega (arith, int_facts))
 
-max_over : (a at : ℤ) → a ≤ℤ int_max a at
+pub max_over : (a at : ℤ) → a ≤ℤ int_max a at
 max_over a at =
     two_ways at a
     (λ l. let e : int_max a at ≡ a = max_first a at l in omega (arith, int_facts))

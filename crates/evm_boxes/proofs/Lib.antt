@@ -3,3 +3,8 @@ pub mod NumberRuns
 pub mod RowSteps
 pub mod FileSteps
 pub mod Cuts
+pub mod Fills
+pub mod Written
+pub mod EventLists
+pub mod Runs
+pub mod SweepSteps

@@ -1,3 +1,4 @@
 pub mod BoxRows
 pub mod Reading
 pub mod Cuts
+pub mod Fills

@@ -5,8 +5,10 @@
 
 mod cut;
 mod file;
+mod heights;
 mod line;
 mod plane;
+mod sweep;
 #[cfg(test)]
 mod tests;
 mod union;

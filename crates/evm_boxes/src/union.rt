@@ -8,6 +8,7 @@ ghost use Rattle.evm_boxes.specs.BoxRows.{ends_of, IsBoxRow};
 
 use super::BoxRow;
 use super::cut::{Sides, divide};
+use super::sweep::join_plane;
 use evm_boolean::{Op2, combine};
 use evm_rows::{BoxError, NoMemory, Solid, xor};
 use std::alloc::Global;
@@ -86,6 +87,9 @@ fn join_few(alloc: Global, dim: usize, mut rows: Vec<BoxRow>) -> Result<Solid, N
     ensures rows { IfOk result (λ s. s.rows ≡ evm dim (union_of dim (map ends_of rows.items))) }
     ensures none { length rows.items ≡ 0 → IsOk result }
 {
+    if dim == 2 {
+        return join_plane(alloc, rows);
+    }
     rows.sort_unstable();
     let all = unite(alloc, dim, rows.as_slice())?;
     Ok(all)
