@@ -65,7 +65,7 @@ max_le x a at =
     (λ l. ap (λ t. int_le t x) (max_second a at l)
     ∙ sym (absorb (int_le a x) (int_le at x) (λ h. let m : at ≤ℤ x = le_is at x h in le_yes a x (omega (arith, int_facts)))))
 
-min_under : (b at : ℤ) → int_min b at ≤ℤ b
+pub min_under : (b at : ℤ) → int_min b at ≤ℤ b
 min_under b at =
     two_ways at b
     (λ l. let e : int_min b at ≡ at = min_second b at l in omega (arith, int_facts))
@@ -76,6 +76,25 @@ max_over a at =
     two_ways at a
     (λ l. let e : int_max a at ≡ a = max_first a at l in omega (arith, int_facts))
     (λ l. let e : int_max a at ≡ at = max_second a at l in omega (arith, int_facts))
+
+pub max_right : (a at : ℤ) → at ≤ℤ int_max a at
+max_right a at =
+    two_ways at a
+    (λ l. let e : int_max a at ≡ a = max_first a at l in omega (arith, int_facts))
+    (λ l. let e : int_max a at ≡ at = max_second a at l in omega (arith, int_facts))
+
+pub min_right : (b at : ℤ) → int_min b at ≤ℤ at
+min_right b at =
+    two_ways at b
+    (λ l. let e : int_min b at ≡ at = min_second b at l in omega (arith, int_facts))
+    (λ l. let e : int_min b at ≡ b = min_first b at l in omega (arith, int_facts))
+
+-- what holds of both numbers holds of the greater and of the lesser
+pub max_at : (P : ℤ → Type 0) (a at : ℤ) → P a → P at → P (int_max a at)
+max_at P a at p q = two_ways at a (λ l. subst P (sym (max_first a at l)) p) (λ l. subst P (sym (max_second a at l)) q)
+
+pub min_at : (P : ℤ → Type 0) (b at : ℤ) → P b → P at → P (int_min b at)
+min_at P b at p q = two_ways at b (λ l. subst P (sym (min_second b at l)) q) (λ l. subst P (sym (min_first b at l)) p)
 
 -- ---- one end of a box, moved to a plane
 
@@ -90,7 +109,7 @@ last true false true = refl
 last true false false = refl
 last false b c = refl
 
-each_under : (i : ℕ) (at : ℤ) (c hi : List ℤ) → i < length hi → each int_lt c (set hi i (int_min (get_or hi i (pos 0)) at)) ≡ (each int_lt c hi && int_lt (get_or c i (pos 0)) at)
+pub each_under : (i : ℕ) (at : ℤ) (c hi : List ℤ) → i < length hi → each int_lt c (set hi i (int_min (get_or hi i (pos 0)) at)) ≡ (each int_lt c hi && int_lt (get_or c i (pos 0)) at)
 unfolding each
 each_under i at c [] l = absurd (omega arith)
 each_under zero at [] (b ∷ hi) l = refl
@@ -99,7 +118,7 @@ each_under zero at (x ∷ c) (b ∷ hi) l = ap (λ t. t && each int_lt c hi) (lt
 each_under (suc i) at (x ∷ c) (b ∷ hi) l =
     ap (λ t. int_lt x b && t) (each_under i at c hi (omega arith)) ∙ middle (int_lt x b) (each int_lt c hi) (int_lt (get_or c i (pos 0)) at)
 
-each_over : (i : ℕ) (at : ℤ) (lo c : List ℤ) → i < length lo → each int_le (set lo i (int_max (get_or lo i (pos 0)) at)) c ≡ (each int_le lo c && int_le at (get_or c i (pos 0)))
+pub each_over : (i : ℕ) (at : ℤ) (lo c : List ℤ) → i < length lo → each int_le (set lo i (int_max (get_or lo i (pos 0)) at)) c ≡ (each int_le lo c && int_le at (get_or c i (pos 0)))
 unfolding each
 each_over i at [] c l = absurd (omega arith)
 each_over zero at (a ∷ lo) [] l = refl
@@ -147,14 +166,14 @@ box_over n i at lo hi l =
     regroup false a b t = refl
 
 -- coordinate by coordinate, at one of them
-each_here : (r : ℤ → ℤ → Bool) (i : ℕ) (p q : List ℤ) → i < length p → each r p q ≡ true → r (get_or p i (pos 0)) (get_or q i (pos 0)) ≡ true
+pub each_here : (r : ℤ → ℤ → Bool) (i : ℕ) (p q : List ℤ) → i < length p → each r p q ≡ true → r (get_or p i (pos 0)) (get_or q i (pos 0)) ≡ true
 unfolding each
 each_here r i [] q l h = absurd (omega arith)
 each_here r i (x ∷ p) [] l h = absurd (false≢true h)
 each_here r zero (x ∷ p) (y ∷ q) l h = and_first (r x y) (each r p q) h
 each_here r (suc i) (x ∷ p) (y ∷ q) l h = each_here r i p q (omega arith) (and_second (r x y) (each r p q) h)
 
-each_length : (r : ℤ → ℤ → Bool) (p q : List ℤ) → each r p q ≡ true → length p ≡ length q
+pub each_length : (r : ℤ → ℤ → Bool) (p q : List ℤ) → each r p q ≡ true → length p ≡ length q
 unfolding each
 each_length r [] [] h = refl
 each_length r [] (y ∷ q) h = absurd (false≢true h)
@@ -190,10 +209,10 @@ at_coord t zero (x ∷ p) l h = and_first (t x) (list_all t p) h
 at_coord t (suc i) (x ∷ p) l h = at_coord t i p (omega arith) (and_second (t x) (list_all t p) h)
 
 -- a box stays one where an end is moved inward, and room is left
-box_of : (n : ℕ) (lo hi : List ℤ) → is_point n lo ≡ true → is_point n hi ≡ true → each int_lt lo hi ≡ true → is_box n lo hi ≡ true
+pub box_of : (n : ℕ) (lo hi : List ℤ) → is_point n lo ≡ true → is_point n hi ≡ true → each int_lt lo hi ≡ true → is_box n lo hi ≡ true
 box_of n lo hi l h r = and_both (is_point n lo && is_point n hi) (each int_lt lo hi) (and_both (is_point n lo) (is_point n hi) l h) r
 
-moved_high : (n i : ℕ) (x : ℤ) (lo hi : List ℤ) → i < n → is_box n lo hi ≡ true → get_or lo i (pos 0) <ℤ x → x ≤ℤ get_or hi i (pos 0) → is_box n lo (set hi i x) ≡ true
+pub moved_high : (n i : ℕ) (x : ℤ) (lo hi : List ℤ) → i < n → is_box n lo hi ≡ true → get_or lo i (pos 0) <ℤ x → x ≤ℤ get_or hi i (pos 0) → is_box n lo (set hi i x) ≡ true
 moved_high n i x lo hi l b room least =
     let h : IsBox n lo hi = box_from n lo hi (sym b) in
     let (e, p) = point_parts n lo h.low in
@@ -204,7 +223,7 @@ moved_high n i x lo hi l b room least =
     (point_from n (set hi i x) (length-set hi i x ∙ f) (all-set (is_point_coord n) i x hi q (point_yes n x (omega (arith, int_facts)) (omega (arith, int_facts)))))
     (each_right int_lt i x lo hi h.room (lt_yes (get_or lo i (pos 0)) x room))
 
-moved_low : (n i : ℕ) (x : ℤ) (lo hi : List ℤ) → i < n → is_box n lo hi ≡ true → get_or lo i (pos 0) ≤ℤ x → x <ℤ get_or hi i (pos 0) → is_box n (set lo i x) hi ≡ true
+pub moved_low : (n i : ℕ) (x : ℤ) (lo hi : List ℤ) → i < n → is_box n lo hi ≡ true → get_or lo i (pos 0) ≤ℤ x → x <ℤ get_or hi i (pos 0) → is_box n (set lo i x) hi ≡ true
 moved_low n i x lo hi l b most room =
     let h : IsBox n lo hi = box_from n lo hi (sym b) in
     let (e, p) = point_parts n lo h.low in
@@ -236,14 +255,14 @@ no_room n i lo hi l none =
 -- ---- one row
 
 -- the ends of a row, and where they are on an axis
-record Fits (n i : ℕ) (row : BoxRow) : Type 0 where
-  within : i < row.dim
-  low : i < length (ends_of row).lo
-  high : i < length (ends_of row).hi
-  low_is : get_or (ends_of row).lo i (pos 0) ≡ get_or row.lo i (pos 0)
-  high_is : get_or (ends_of row).hi i (pos 0) ≡ get_or row.hi i (pos 0)
+pub record Fits (n i : ℕ) (row : BoxRow) : Type 0 where
+  pub within : i < row.dim
+  pub low : i < length (ends_of row).lo
+  pub high : i < length (ends_of row).hi
+  pub low_is : get_or (ends_of row).lo i (pos 0) ≡ get_or row.lo i (pos 0)
+  pub high_is : get_or (ends_of row).hi i (pos 0) ≡ get_or row.hi i (pos 0)
 
-fits : (n i : ℕ) (row : BoxRow) → i < n → IsBoxRow n row → Fits n i row
+pub fits : (n i : ℕ) (row : BoxRow) → i < n → IsBoxRow n row → Fits n i row
 fits n i row l b =
     let (e, f) = box_lengths n (ends_of row).lo (ends_of row).hi b.box in
     let d : row.dim ≡ n = b.dim in

@@ -43,15 +43,16 @@ between-cells n (l ∷ lo) (x ∷ c) (h ∷ hi) p q a b =
     let high : x <ℤ h = lt_is x h (and_first (int_lt x h) (each int_lt c hi) b) in
     (ap suc e, and_both (is_cell_coord n x) (list_all (is_cell_coord n) c) (cell_yes n x (omega (arith, int_facts)) (omega (arith, int_facts))) f)
 
+pub ends-cell : (n : ℕ) (e : Ends) (c : List ℤ) → is_box n e.lo e.hi ≡ true → holds c e ≡ true → is_cell n c ≡ true
+ends-cell n e c b h =
+    let x : IsBox n e.lo e.hi = box_from n e.lo e.hi (sym b) in
+    let (u, p) = point_parts n e.lo x.low in
+    let (v, q) = point_parts n e.hi x.high in
+    let (s, t) = between-cells n e.lo c e.hi p q (and_first (each int_le e.lo c) (each int_lt c e.hi) h) (and_second (each int_le e.lo c) (each int_lt c e.hi) h) in
+    cell_from n c (sym s ∙ u) t
+
 pub holds-cell : (n : ℕ) (row : BoxRow) (c : List ℤ) → IsBoxRow n row → holds c (ends_of row) ≡ true → is_cell n c ≡ true
-holds-cell n row c b h =
-    let lo = (ends_of row).lo in
-    let hi = (ends_of row).hi in
-    let x : IsBox n lo hi = box_from n lo hi (sym b.box) in
-    let (e, p) = point_parts n lo x.low in
-    let (f, q) = point_parts n hi x.high in
-    let (s, t) = between-cells n lo c hi p q (and_first (each int_le lo c) (each int_lt c hi) h) (and_second (each int_le lo c) (each int_lt c hi) h) in
-    cell_from n c (sym s ∙ e) t
+holds-cell n row c b h = ends-cell n (ends_of row) c b.box h
 
 -- ---- the cells of the union
 
@@ -111,21 +112,21 @@ holds-first n k c row p = ap₂ (λ (lo hi : List ℤ). each int_le lo (k ∷ c)
 
 -- ---- where nothing comes or goes
 
-le-still : (l k : ℤ) → int_eq k l ≡ false → int_le l k ≡ int_le l (k -ℤ pos 1)
+pub le-still : (l k : ℤ) → int_eq k l ≡ false → int_le l k ≡ int_le l (k -ℤ pos 1)
 le-still l k e =
     by_order l k
     (λ h. le_yes l k (omega (arith, int_facts)) ∙ sym (le_yes l (k -ℤ pos 1) (omega (arith, int_facts))))
     (λ h. absurd (false≢true (sym e ∙ eq_yes k l (sym h))))
     (λ h. le_no l k (omega (arith, int_facts)) ∙ sym (le_no l (k -ℤ pos 1) (omega (arith, int_facts))))
 
-lt-still : (h k : ℤ) → int_eq k h ≡ false → int_lt k h ≡ int_lt (k -ℤ pos 1) h
+pub lt-still : (h k : ℤ) → int_eq k h ≡ false → int_lt k h ≡ int_lt (k -ℤ pos 1) h
 lt-still h k e =
     by_order h k
     (λ m. lt_no k h (omega (arith, int_facts)) ∙ sym (lt_no (k -ℤ pos 1) h (omega (arith, int_facts))))
     (λ m. absurd (false≢true (sym e ∙ eq_yes k h (sym m))))
     (λ m. lt_yes k h (omega (arith, int_facts)) ∙ sym (lt_yes (k -ℤ pos 1) h (omega (arith, int_facts))))
 
-neither : (a b : Bool) → (a || b) ≡ false → (a ≡ false) × (b ≡ false)
+pub neither : (a b : Bool) → (a || b) ≡ false → (a ≡ false) × (b ≡ false)
 neither true b h = absurd (false≢true (sym h))
 neither false b h = (refl, h)
 

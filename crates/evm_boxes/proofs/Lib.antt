@@ -8,3 +8,6 @@ pub mod Written
 pub mod EventLists
 pub mod Runs
 pub mod SweepSteps
+pub mod Meets
+pub mod Windows
+pub mod EventSteps

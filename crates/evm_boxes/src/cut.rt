@@ -13,7 +13,7 @@ use std::alloc::Global;
 
 /// A side of a plane.
 #[derive(Clone, Copy)]
-enum Side {
+pub(crate) enum Side {
     /// The cells below the plane.
     Low,
     /// The cells above it.
@@ -84,7 +84,7 @@ fn side_of(
 }
 
 /// Adds a box, if there is one.
-fn keep(part: Option<BoxRow>, kept: &mut Vec<BoxRow>) -> Result<(), NoMemory>
+pub(crate) fn keep(part: Option<BoxRow>, kept: &mut Vec<BoxRow>) -> Result<(), NoMemory>
     ensures { OnOk result (kept.new.items ≡ kept.old.items ++ option_to_list part) }
 {
     match part {

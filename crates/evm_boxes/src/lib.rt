@@ -4,6 +4,7 @@
 #![tactic(auto)]
 
 mod cut;
+mod events;
 mod file;
 mod heights;
 mod line;

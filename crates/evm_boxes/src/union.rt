@@ -8,7 +8,7 @@ ghost use Rattle.evm_boxes.specs.BoxRows.{ends_of, IsBoxRow};
 
 use super::BoxRow;
 use super::cut::{Sides, divide};
-use super::sweep::join_plane;
+use super::events::join_few;
 use evm_boolean::{Op2, combine};
 use evm_rows::{BoxError, NoMemory, Solid, xor};
 use std::alloc::Global;
@@ -78,25 +78,8 @@ fn join_parts(alloc: Global, dim: usize, rows: Vec<BoxRow>) -> Result<Solid, NoM
     }
 }
 
-/// The union of boxes, put in order and then taken by halves.
-fn join_few(alloc: Global, dim: usize, mut rows: Vec<BoxRow>) -> Result<Solid, NoMemory>
-    requires low { 0 < dim }
-    requires high { dim ≤ 6 }
-    requires boxes { All (IsBoxRow dim) rows.items }
-    ensures dim { IfOk result (λ s. s.dim ≡ dim) }
-    ensures rows { IfOk result (λ s. s.rows ≡ evm dim (union_of dim (map ends_of rows.items))) }
-    ensures none { length rows.items ≡ 0 → IsOk result }
-{
-    if dim == 2 {
-        return join_plane(alloc, rows);
-    }
-    rows.sort_unstable();
-    let all = unite(alloc, dim, rows.as_slice())?;
-    Ok(all)
-}
-
 /// The union of boxes, by halves.
-fn unite(alloc: Global, dim: usize, boxes: &[BoxRow]) -> Result<Solid, NoMemory>
+pub(crate) fn unite(alloc: Global, dim: usize, boxes: &[BoxRow]) -> Result<Solid, NoMemory>
     requires low { 0 < dim }
     requires high { dim ≤ 6 }
     requires boxes { All (IsBoxRow dim) boxes.now }
@@ -118,7 +101,7 @@ fn unite(alloc: Global, dim: usize, boxes: &[BoxRow]) -> Result<Solid, NoMemory>
 }
 
 /// One box.
-fn solid_of(alloc: Global, row: &BoxRow) -> Result<Solid, NoMemory>
+pub(crate) fn solid_of(alloc: Global, row: &BoxRow) -> Result<Solid, NoMemory>
     requires low { 0 < row.now.dim }
     requires high { row.now.dim ≤ 6 }
     requires is_box { IsBoxRow row.now.dim row.now }

@@ -1,0 +1,25 @@
+use Rattle.std.proofs.Common.{◌≡◌, ◌-◌, ◌<◌, [], ◌∷◌, ◌++◌, List, length, get_or, Some, arith, rules, w32, to_z, of_z, sym, subst, ap, ap₂, ◌∙◌}
+use Rattle.std.specs.Option.{option_to_list}
+use Rattle.evm_sections.proofs.Bits.{same32}
+use Rattle.evm_boxes.specs.Fills.{IsSection, level_of}
+use Rattle.evm_boxes.specs.declared.BoxRow.{BoxRow}
+use Rattle.evm_boxes.proofs.Windows.{section_full, section_more, section_all}
+use Rattle.evm_boxes.proofs.events.bases_in.Goals as goal
+
+pub returns-then-eq : goal.returns-then-eq
+returns-then-eq c =
+    let u = c.eq.ensures in let v = c.if-eq.true in let w = c.if-eq.ensures in
+    let same : c.base_in-part.result ≡ Some c.args.window.now = ? in
+    let one = subst (λ o. IsSection (c.args.dim - 1) (level_of c.args.side (to_z w32 (of_z w32 c.args.height))) c.args.window.now (get_or c.args.rows.now c.loop-row.row-index (record { dim = 0; lo = []; hi = [] }) ∷ []) (option_to_list o)) same c.base_in-part.ensures in
+    section_full (c.args.dim - 1) (level_of c.args.side c.args.height) c.args.window.now c.args.rows.now c.keep.new.kept.items c.loop-row.row-index (record { dim = 0; lo = []; hi = [] }) (omega arith)
+    (c.in_ok-keep.ensures ∙ ap₂ (λ (xs : List BoxRow) o. xs ++ option_to_list o) c.clear.ensures.items same)
+    (rw (same32 c.args.height c.ranges.height) at one)
+
+pub loop-row-preserved : goal.loop-row-preserved
+loop-row-preserved c =
+    section_more (c.args.dim - 1) _ c.args.window.now c.args.rows.now _ _ _ c.loop-row.row-index (record { dim = 0; lo = []; hi = [] }) (omega arith) c.in_ok-keep-2.ensures c.loop-row.invariant c.base_in-part.ensures
+
+pub returns : goal.returns
+returns c =
+    rw (sym (same32 c.args.height c.ranges.height))
+    (section_all (c.args.dim - 1) _ c.args.window.now c.args.rows.now c.loop-row.kept.items c.loop-row.row-index (omega arith) c.loop-row.invariant)
