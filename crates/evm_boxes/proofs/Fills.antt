@@ -36,7 +36,7 @@ between-cells n (l ∷ lo) [] hi p q a b = absurd (false≢true a)
 between-cells n (l ∷ lo) (x ∷ c) [] p q a b = absurd (false≢true b)
 between-cells n (l ∷ lo) (x ∷ c) (h ∷ hi) p q a b =
     let (e, f) = between-cells n lo c hi (and_second (is_point_coord n l) (list_all (is_point_coord n) lo) p) (and_second (is_point_coord n h) (list_all (is_point_coord n) hi) q)
-        (and_second (int_le l x) (each int_le lo c) a) (and_second (int_lt x h) (each int_lt c hi) b) in
+    (and_second (int_le l x) (each int_le lo c) a) (and_second (int_lt x h) (each int_lt c hi) b) in
     let (u, v) = point_is n l (and_first (is_point_coord n l) (list_all (is_point_coord n) lo) p) in
     let (s, t) = point_is n h (and_first (is_point_coord n h) (list_all (is_point_coord n) hi) q) in
     let low : l ≤ℤ x = le_is l x (and_first (int_le l x) (each int_le lo c) a) in

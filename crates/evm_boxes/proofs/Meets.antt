@@ -41,8 +41,13 @@ pub record Meeting (n i : ℕ) (left right part : BoxRow) : Type 0 where
 
 pub meeting_start : (n : ℕ) (left right : BoxRow) → IsBoxRow n left → length left.lo ≡ 6 → length left.hi ≡ 6 → Meeting n 0 left right left
 meeting_start n left right b l h = record {
-  box = b; lows = l; highs = h; same = λ c. refl; inside = λ c m. m;
-  low = λ j m. absurd (omega arith); high = λ j m. absurd (omega arith);
+  box = b;
+  lows = l;
+  highs = h;
+  same = λ c. refl;
+  inside = λ c m. m;
+  low = λ j m. absurd (omega arith);
+  high = λ j m. absurd (omega arith);
 }
 
 -- where a box holds a cell, on one axis
@@ -109,7 +114,7 @@ meeting_more n i left right part new x y l six b m e f room d lo hi =
     let second : is_box n (set lows i x) (set highs i y) ≡ true =
     moved_high n i y (set lows i x) highs l first (subst (λ z. z <ℤ y) (sym same_x) room) under in
     let cells : (c : List ℤ) → holds c (ends_of new)
-            ≡ ((each int_le lows c && int_le (low_of i right) (get_or c i (pos 0))) && (each int_lt c highs && int_lt (get_or c i (pos 0)) (high_of i right))) =
+    ≡ ((each int_le lows c && int_le (low_of i right) (get_or c i (pos 0))) && (each int_lt c highs && int_lt (get_or c i (pos 0)) (high_of i right))) =
     λ c. ap₂ (λ (u v : List ℤ). each int_le u c && each int_lt c v) (new_lo ∙ ap (set lows i) x_is) (new_hi ∙ ap (set highs i) y_is)
     ∙ ap₂ (λ s t. s && t) (each_over i (low_of i right) lows c g.low) (each_under i (high_of i right) c highs g.high) in
     record {

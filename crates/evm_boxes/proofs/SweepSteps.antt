@@ -109,7 +109,13 @@ same_runs l F G w rs e =
     ⊎_elim
     (λ (n : (w ≡ []) × ((x : ℤ) → F x ≡ false)). inl (n.0, λ x. e x ∙ n.1 x))
     (λ (r : Run l F w). inr (record {
-      front = r.front; end = r.end; is = r.is; rises = r.rises; odd_many = r.odd_many; low = r.low; under = r.under;
+      front = r.front;
+      end = r.end;
+      is = r.is;
+      rises = r.rises;
+      odd_many = r.odd_many;
+      low = r.low;
+      under = r.under;
       fills = λ x. r.fills x ∙ sym (e x);
     }))
     rs

@@ -62,9 +62,10 @@ rep_holds n zero (x ∷ c) e a = absurd (omega arith)
 rep_holds n (suc m) [] e a = absurd (omega arith)
 rep_holds n (suc m) (x ∷ c) e a =
     let (u, v) = cell_is n x (and_first (is_cell_coord n x) (list_all (is_cell_coord n) c) a) in
-    let (s, t) = rep_holds n m c (omega arith) (and_second (is_cell_coord n x) (list_all (is_cell_coord n) c) a) in
-    (and_both (int_le (neg_ℤ (pos (limit n))) x) (each int_le (rep m (neg_ℤ (pos (limit n)))) c) (le_yes (neg_ℤ (pos (limit n))) x u) s,
-    and_both (int_lt x (pos (limit n))) (each int_lt c (rep m (pos (limit n)))) (lt_yes x (pos (limit n)) v) t)
+    let (s, t) = rep_holds n m c (omega arith) (and_second (is_cell_coord n x) (list_all (is_cell_coord n) c) a) in (
+      and_both (int_le (neg_ℤ (pos (limit n))) x) (each int_le (rep m (neg_ℤ (pos (limit n)))) c) (le_yes (neg_ℤ (pos (limit n))) x u) s,
+      and_both (int_lt x (pos (limit n))) (each int_lt c (rep m (pos (limit n)))) (lt_yes x (pos (limit n)) v) t,
+    )
 
 pub all_is : (n : ℕ) (row : BoxRow) (low high : ℤ) → n ≤ 6 → row.dim ≡ n → low ≡ neg_ℤ (pos (limit n)) → high ≡ pos (limit n)
     → row.lo ≡ low ∷ low ∷ low ∷ low ∷ low ∷ low ∷ [] → row.hi ≡ high ∷ high ∷ high ∷ high ∷ high ∷ high ∷ [] → IsAll n row
@@ -75,8 +76,11 @@ all_is n row low high few d l h lo hi =
     let (e, a) = rep_point n n (neg_ℤ (pos (limit n))) (point_yes n (neg_ℤ (pos (limit n))) (omega (arith, int_facts)) (omega (arith, int_facts))) in
     let (f, b) = rep_point n n (pos (limit n)) (point_yes n (pos (limit n)) (omega (arith, int_facts)) (omega (arith, int_facts))) in
     record {
-      box = record { dim = d; box = ap₂ (is_box n) los his ∙ box_of n (rep n (neg_ℤ (pos (limit n)))) (rep n (pos (limit n))) (point_from n (rep n (neg_ℤ (pos (limit n)))) e a) (point_from n (rep n (pos (limit n))) f b)
-          (rep_room n (neg_ℤ (pos (limit n))) (pos (limit n)) (omega (arith, int_facts))) };
+      box = record {
+        dim = d;
+        box = ap₂ (is_box n) los his ∙ box_of n (rep n (neg_ℤ (pos (limit n)))) (rep n (pos (limit n))) (point_from n (rep n (neg_ℤ (pos (limit n)))) e a) (point_from n (rep n (pos (limit n))) f b)
+            (rep_room n (neg_ℤ (pos (limit n))) (pos (limit n)) (omega (arith, int_facts)));
+      };
       all = λ c k. let (g, m) = cell_parts n c k in let (s, t) = rep_holds n n c g m in
           ap₂ (λ (u v : List ℤ). each int_le u c && each int_lt c v) los his ∙ and_both (each int_le (rep n (neg_ℤ (pos (limit n)))) c) (each int_lt c (rep n (pos (limit n)))) s t;
     }

@@ -1,6 +1,7 @@
 //! Unions of boxes by what comes and goes, height by height.
 
-ghost use Rattle.std.specs.Prelude.{◌≡◌, ◌-◌, ◌<◌, ◌≤◌, List, [], ◌∷◌, ◌++◌, map, length, All, IfOk, IsOk};
+ghost use Rattle.std.specs.Prelude.{◌≡◌, ◌-◌, ◌<◌, ◌≤◌, List, [], ◌∷◌, ◌++◌, map, length, All, Some, IfOk, IsOk};
+ghost use Rattle.std.specs.Bool.{OnTrue};
 ghost use Rattle.std.specs.Option.{option_to_list};
 ghost use Rattle.evm_cells.specs.Vertices.{evm};
 ghost use Rattle.evm_cells.specs.Unions.{union_of};
@@ -142,7 +143,7 @@ fn bases_in(
     let mut kept = Vec::new(alloc);
     for row in rows {
         let part = base_in(dim, row, height, side, window);
-        if part == Some(*window) {
+        if is_just(part, window) {
             kept.clear();
             keep(part, &mut kept)?;
             return Ok(kept);
@@ -152,14 +153,25 @@ fn bases_in(
     Ok(kept)
 }
 
+/// Whether there is a box, and it is just the window.
+fn is_just(part: Option<BoxRow>, window: &BoxRow) -> bool
+    ensures { OnTrue result (part ≡ Some window.now) }
+{
+    match part {
+        None => false,
+        Some(row) => is_same(&row, window),
+    }
+}
+
+/// Whether two boxes are the same.
+fn is_same(row: &BoxRow, other: &BoxRow) -> bool
+    ensures { OnTrue result (row.now ≡ other.now) }
+{
+    row.dim == other.dim && row.lo == other.lo && row.hi == other.hi
+}
+
 /// What the base of a box has inside a window, where the box is just below or just above a height.
-fn base_in(
-    dim: usize,
-    row: &BoxRow,
-    height: i32,
-    side: Side,
-    window: &BoxRow,
-) -> Option<BoxRow>
+fn base_in(dim: usize, row: &BoxRow, height: i32, side: Side, window: &BoxRow) -> Option<BoxRow>
     requires low { 1 < dim }
     requires high { dim ≤ 6 }
     requires is_box { IsBoxRow dim row.now }

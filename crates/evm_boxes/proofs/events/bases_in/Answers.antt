@@ -6,10 +6,9 @@ use Rattle.evm_boxes.specs.declared.BoxRow.{BoxRow}
 use Rattle.evm_boxes.proofs.Windows.{section_full, section_more, section_all}
 use Rattle.evm_boxes.proofs.events.bases_in.Goals as goal
 
-pub returns-then-eq : goal.returns-then-eq
-returns-then-eq c =
-    let u = c.eq.ensures in let v = c.if-eq.true in let w = c.if-eq.ensures in
-    let same : c.base_in-part.result ≡ Some c.args.window.now = ? in
+pub returns-then-is_just : goal.returns-then-is_just
+returns-then-is_just c =
+    let same : c.base_in-part.result ≡ Some c.args.window.now = c.if-is_just.ensures in
     let one = subst (λ o. IsSection (c.args.dim - 1) (level_of c.args.side (to_z w32 (of_z w32 c.args.height))) c.args.window.now (get_or c.args.rows.now c.loop-row.row-index (record { dim = 0; lo = []; hi = [] }) ∷ []) (option_to_list o)) same c.base_in-part.ensures in
     section_full (c.args.dim - 1) (level_of c.args.side c.args.height) c.args.window.now c.args.rows.now c.keep.new.kept.items c.loop-row.row-index (record { dim = 0; lo = []; hi = [] }) (omega arith)
     (c.in_ok-keep.ensures ∙ ap₂ (λ (xs : List BoxRow) o. xs ++ option_to_list o) c.clear.ensures.items same)
