@@ -20,8 +20,8 @@ const FEW: usize = 96;
 ///
 /// Where there are many boxes, a plane cuts them into those below it and those above it, each side is joined by itself,
 /// and the answers are put together by one merge, since the two sides share no cell. A plane is taken if it leaves to each
-/// side at most seven of eight boxes, so this goes no deeper than a logarithm of their number. Few boxes are sorted by their
-/// lower corners and united by halves.
+/// side at most seven of eight boxes, so this goes no deeper than a logarithm of their number. Few boxes are joined by what
+/// comes and goes from height to height of the first axis; on one axis alone they are united by halves.
 ///
 /// It takes memory for the boxes of the sides that wait, 56 bytes each: commonly about two times those given, and never
 /// more than seven times, in lists that grow by doubling; for a finished union of each side that waits for the other; and
