@@ -29,9 +29,9 @@ pub(crate) fn join_few(alloc: Global, dim: usize, rows: Vec<BoxRow>) -> Result<S
     requires low { 0 < dim }
     requires high { dim ≤ 6 }
     requires boxes { All (IsBoxRow dim) rows.items }
-    ensures dim { IfOk result (λ s. s.dim ≡ dim) }
-    ensures rows { IfOk result (λ s. s.rows ≡ evm dim (union_of dim (map ends_of rows.items))) }
     ensures none { length rows.items ≡ 0 → IsOk result }
+    ensures rows { IfOk result (λ s. s.rows ≡ evm dim (union_of dim (map ends_of rows.items))) }
+    ensures dim { IfOk result (λ s. s.dim ≡ dim) }
 {
     if rows.len() < 2 || dim == 1 {
         return unite(alloc, dim, rows.as_slice());
