@@ -5,7 +5,7 @@ ghost use Rattle.evm_rows.specs.View.{vertices_of};
 ghost use Rattle.evm_cutting.specs.Booleans.{combined, HasCombined};
 ghost use Rattle.evm_cutting.specs.Splits.{AreSplit};
 
-use crate::dense::is_dense;
+use crate::dense::{is_dense, shows_dense};
 use crate::halves::{Split, cut_at};
 use crate::middles::inner_plane;
 use evm_boolean::Op2;
@@ -112,7 +112,8 @@ pub(crate) struct Pair {
     pub right: Split,
 }
 
-/// Two solids cut by a plane across some axis, the first that pays from `first` on, if one was found.
+/// Two solids cut by a plane across some axis, the first that pays from `first` on, if one was found. Only the whole operands are cut
+/// with `first` 0, and then none is answered where the cut shows that their sections change fast.
 fn divided(alloc: Global, a: Rows<'_>, b: Rows<'_>, first: usize) -> Result<Option<Pair>, NoMemory>
     requires { (vertices_of a).dim ≡ (vertices_of b).dim }
     ensures { IfOk result
@@ -125,6 +126,9 @@ fn divided(alloc: Global, a: Rows<'_>, b: Rows<'_>, first: usize) -> Result<Opti
         if let Some(at) = plane {
             let left = cut_at(alloc, a, axis, at)?;
             let right = cut_at(alloc, b, axis, at)?;
+            if first == 0 && axis == 0 && shows_dense(a, b, &left, &right) {
+                return Ok(None);
+            }
             if pays(&left, &right, a.len().saturating_add(b.len())) {
                 return Ok(Some(Pair { left, right }));
             }
