@@ -1,3 +1,4 @@
 pub mod Cuts
+pub mod Seams
 pub mod Splits
 pub mod Booleans

@@ -7,11 +7,14 @@
 mod booleans;
 mod dense;
 mod halves;
+mod measures;
 mod middles;
+mod seams;
 mod sides;
 #[cfg(test)]
 mod tests;
 
 pub use booleans::combine;
 pub use halves::{Split, cut_at, halved};
+pub use measures::{boundary, content};
 pub use sides::{over, under};
