@@ -19,7 +19,7 @@ const DEEP: usize = 64;
 pub(crate) struct Sweeps {
     /// The most rows that are few.
     rows: usize,
-    /// The heights that are no more few.
+    /// The heights that are no more few: none where sections are solids, of which a sweep is dear even if they turn over quickly.
     heights: usize,
 }
 
@@ -33,11 +33,11 @@ impl Sweeps {
             },
             4 => Sweeps {
                 rows: 2048,
-                heights: 10,
+                heights: 0,
             },
             _ => Sweeps {
                 rows: 4096,
-                heights: 6,
+                heights: 0,
             },
         }
     }
