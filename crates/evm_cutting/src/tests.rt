@@ -1,41 +1,50 @@
+ghost use Rattle.std.specs.Prelude.{◌≡◌};
+
 use crate::booleans::combine_parts;
 use crate::{combine, cut_at};
 use evm_boolean::Op2;
-use evm_rows::{Rows, Solid};
+use evm_rows::Solid;
 use std::alloc::Global;
 
-// Whether a Boolean of two solids, cut while they have more than `few` rows, is that of one recursion.
-fn agrees(alloc: Global, op: Op2, a: Rows<'_>, b: Rows<'_>, few: usize) -> Option<bool> {
-    let wanted = evm_boolean::combine(alloc, op, a, b).ok()?;
-    let made = combine_parts(alloc, op, a, b, few, 0, 8).ok()?;
+// Whether a Boolean of two solids, cut while they have more than four rows, is that of one recursion.
+fn agrees(alloc: Global, op: Op2, a: &Solid, b: &Solid) -> Option<bool>
+    requires { a.now.dim ≡ b.now.dim }
+{
+    let wanted = evm_boolean::combine(alloc, op, a.rows(), b.rows()).ok()?;
+    let made = combine_parts(alloc, op, a.rows(), b.rows(), 4, 0, 8).ok()?;
     Some(made.same(&wanted))
+}
+
+// The same of two rectangles that overlap, and of two boxes.
+fn agrees_on_boxes(alloc: Global, op: Op2) -> Option<bool> {
+    let a = Solid::of_box(alloc, &[0, 0], &[4, 4]).ok()?;
+    let b = Solid::of_box(alloc, &[2, 1], &[6, 3]).ok()?;
+    let c = Solid::of_box(alloc, &[0, 0, 0], &[4, 4, 4]).ok()?;
+    let d = Solid::of_box(alloc, &[2, 1, -1], &[6, 3, 3]).ok()?;
+    let planes = agrees(alloc, op, &a, &b)?;
+    let spaces = agrees(alloc, op, &c, &d)?;
+    Some(planes && spaces)
+}
+
+// Whether what two rectangles share, and the two sides of a plane across the second axis of a square, have the right numbers.
+#[tactic(auto, unfolding(evm_cells::specs::Limits::limit))]
+fn has_right_numbers(alloc: Global) -> Option<(bool, bool)> {
+    let a = Solid::of_box(alloc, &[0, 0], &[4, 4]).ok()?;
+    let b = Solid::of_box(alloc, &[2, 1], &[6, 3]).ok()?;
+    let shared = combine(alloc, Op2::And, a.rows(), b.rows()).ok()?;
+    let cut = cut_at(alloc, a.rows(), 1, 3).ok()?;
+    let low = cut.low.rows().flat == [0, 0, 0, 3, 4, 0, 4, 3].as_slice();
+    let high = cut.high.rows().flat == [0, 3, 0, 4, 4, 3, 4, 4].as_slice();
+    Some((
+        shared.rows().flat == [2, 1, 2, 3, 4, 1, 4, 3].as_slice(),
+        low && high,
+    ))
 }
 
 #[test]
 fn combines_boxes_by_parts(rt: HostRuntime) {
-    let low = [0, 0, 0];
-    let high = [4, 4, 4];
-    let other_low = [2, 1, -1];
-    let other_high = [6, 3, 3];
-    for dim in 2..=3 {
-        let a = Solid::of_box(rt.alloc(), &low[..dim], &high[..dim]).expect(&rt, "memory");
-        let b = Solid::of_box(rt.alloc(), &other_low[..dim], &other_high[..dim]).expect(
-            &rt, "memory",
-        );
-        for op in [Op2::Or, Op2::And, Op2::Sub, Op2::Xor] {
-            let made = agrees(rt.alloc(), op, a.rows(), b.rows(), 4);
-            assert_eq!(rt; made, Some(true), "{dim} {op:?}");
-        }
+    for op in [Op2::Or, Op2::And, Op2::Sub, Op2::Xor] {
+        assert_eq!(rt; agrees_on_boxes(rt.alloc(), op), Some(true), "{op:?}");
     }
-}
-
-#[test]
-fn combines_few_rows(rt: HostRuntime) {
-    let a = Solid::of_box(rt.alloc(), &[0, 0], &[4, 4]).expect(&rt, "memory");
-    let b = Solid::of_box(rt.alloc(), &[2, 1], &[6, 3]).expect(&rt, "memory");
-    let both = combine(rt.alloc(), Op2::And, a.rows(), b.rows()).expect(&rt, "memory");
-    assert!(rt; both.rows().flat == [2, 1, 2, 3, 4, 1, 4, 3].as_slice());
-    let cut = cut_at(rt.alloc(), a.rows(), 1, 3).expect(&rt, "memory");
-    assert!(rt; cut.low.rows().flat == [0, 0, 0, 3, 4, 0, 4, 3].as_slice());
-    assert!(rt; cut.high.rows().flat == [0, 3, 0, 4, 4, 3, 4, 4].as_slice());
+    assert_eq!(rt; has_right_numbers(rt.alloc()), Some((true, true)));
 }
