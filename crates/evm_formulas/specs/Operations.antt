@@ -1,21 +1,13 @@
 -- What formulas do: Booleans of two names, shapes of one name, and boxes.
-use Rattle.std.specs.Prelude.{ℕ, Bool, true, nat_abs, List, [], ◌∷◌}
+use Rattle.std.specs.Prelude.{Bool, true, nat_abs}
 use Rattle.evm_delta.specs.declared.shapes.Op1.{Op1}
 use Rattle.evm_delta.specs.declared.shapes.Op1.TheVariants as shapes
 use Rattle.evm_boolean.specs.declared.boolean.Op2.TheVariants as ops
 use Rattle.evm_script.specs.declared.formula.Formula.{Formula}
 use Rattle.evm_script.specs.declared.formula.Formula.TheVariants.{Or, And, Sub, Xor, Box, Shift, Mirror, Swap, Clip, Slice, Proj, Lift}
 use Rattle.evm_model.specs.Figures.{Figure, shift_of, shift_stays, mirror_of, swap_of, clip_of, slice_of, proj_of, lift_of, lift_stays}
-use Rattle.evm_formulas.specs.declared.operations.Operands.{Operands}
-use Rattle.evm_formulas.specs.declared.operations.Operands.TheVariants.{Two, One, Zero}
 use Rattle.evm_formulas.specs.declared.operations.Operation.{Operation}
 use Rattle.evm_formulas.specs.declared.operations.Operation.TheVariants as does
-
--- the names of operands
-abbrev pub names_in : Operands → List (List ℕ)
-names_in (Two a b) = a ∷ b ∷ []
-names_in (One a) = a ∷ []
-names_in Zero = []
 
 -- what a formula does
 abbrev pub operation_of : Formula → Operation

@@ -1,45 +1,13 @@
-//! What formulas do, and which names they read.
+//! What formulas do.
 
 ghost use Rattle.std.specs.Prelude.{◌≡◌, pos, nat_abs, ◌≤ℤ◌, true};
 ghost use Rattle.evm_cells.specs.Limits.{is_point_coord};
-ghost use Rattle.evm_model.specs.Scene.{operands};
 ghost use Rattle.evm_formulas.specs.Stated.{FormulaStated};
-ghost use Rattle.evm_formulas.specs.Operations.{names_in, operation_of};
+ghost use Rattle.evm_formulas.specs.Operations.{operation_of};
 
 use evm_boolean::Op2;
 use evm_delta::Op1;
 use evm_script::{Formula, Name, Num, Nums};
-
-/// The names that a formula reads.
-#[derive(Clone, Copy, Debug)]
-pub enum Operands {
-    /// Two names.
-    Two(Name, Name),
-    /// One name.
-    One(Name),
-    /// No name.
-    Zero,
-}
-
-/// The operands of a formula.
-pub fn operands_of(formula: &Formula) -> Operands
-    ensures { names_in result ≡ operands formula.now }
-{
-    match *formula {
-        Formula::Or { a, b }
-        | Formula::And { a, b }
-        | Formula::Sub { a, b }
-        | Formula::Xor { a, b } => Operands::Two(a, b),
-        Formula::Box { .. } => Operands::Zero,
-        Formula::Shift { a, .. }
-        | Formula::Mirror { a, .. }
-        | Formula::Swap { a, .. }
-        | Formula::Clip { a, .. }
-        | Formula::Slice { a, .. }
-        | Formula::Proj { a, .. }
-        | Formula::Lift { a, .. } => Operands::One(a),
-    }
-}
 
 /// What a formula does.
 #[derive(Clone, Copy, Debug)]

@@ -37,14 +37,6 @@ pub fn stays(solid: &Tiles)
     let _read = solid.dim();
 }
 
-/// The tree of a solid. Takes memory for its rows.
-pub fn tree_of(alloc: Global, solid: &Solid) -> Result<Tiles, NoMemory>
-    ensures { IfOk result (λ t. t ≡ solid.now) }
-{
-    let made = Tiles::from_rows(alloc, solid.rows())?;
-    Ok(made)
-}
-
 /// The cells of just one of two solids: also the change between the two.
 pub fn exclusive_or(alloc: Global, a: &Solid, b: &Solid) -> Result<Solid, NoMemory>
     requires { b.now.dim ≡ a.now.dim }

@@ -3,7 +3,7 @@ use Rattle.std.proofs.Common.{◌≡◌, ℕ, zero, suc, true, false, ◌||◌, 
 use Rattle.std.specs.Prelude.{option_map, MatchOption}
 use Rattle.std.specs.List.{list_any}
 use Rattle.std.proofs.lemmas.List.{map-set}
-use Rattle.std.proofs.lemmas.Option.{slice_get-map}
+use Rattle.std.proofs.lemmas.Option.{slice_get-map, same_Some, none-some}
 use Rattle.evm_rows.specs.Rows.{Vertices}
 use Rattle.evm_model.specs.Figures.{Figure}
 use Rattle.evm_model.specs.Scene as model
@@ -17,17 +17,11 @@ use Rattle.evm_scene.specs.Watched.{slot_of, slots_of, Follows, AllFollow, IsWat
 use Rattle.evm_scene.proofs.Views.{stands_at}
 use Rattle.evm_scene.proofs.Slotted.{slot_is, reads_value}
 
-same_some : {A : Type 0} (a b : A) → Some a ≡ Some b → a ≡ b
-same_some a b e = cc
-
-none_some : {A C : Type 0} (a : A) → (let o : Option A = None in o ≡ Some a) → C
-none_some a e = cc
-
 -- ---- one slot is another
 
 follow_set : (at : List ℕ → Figure) (slots : List Seen) (k : ℕ) (s : Seen) → AllFollow at slots → Follows at s → AllFollow at (set slots k s)
-follow_set at [] k s h f j z q = none_some z q
-follow_set at (a ∷ ss) zero s h f zero z q = subst (Follows at) (same_some s z q) f
+follow_set at [] k s h f j z q = absurd (none-some z q)
+follow_set at (a ∷ ss) zero s h f zero z q = subst (Follows at) (same_Some s z q) f
 follow_set at (a ∷ ss) zero s h f (suc j) z q = h (suc j) z q
 follow_set at (a ∷ ss) (suc k) s h f zero z q = h zero z q
 follow_set at (a ∷ ss) (suc k) s h f (suc j) z q = follow_set at ss k s (λ i y r. h (suc i) y r) f j z q

@@ -3,6 +3,7 @@ use Rattle.std.proofs.Common.{◌≡◌, ℕ, Bool, true, false, cond, ◌||◌,
 use Rattle.std.specs.Prelude.{option_map}
 use Rattle.std.specs.List.{IsDistinct}
 use Rattle.std.specs.Map.{keys_of}
+use Rattle.std.proofs.lemmas.Option.{same_Some}
 use Rattle.evm_script.specs.declared.formula.Formula.{Formula}
 use Rattle.evm_model.specs.Orders.{is_among}
 use Rattle.evm_model.specs.Scene.{Made, operands, formula_value, formula_stays, with_entry, reaches}
@@ -15,8 +16,7 @@ use Rattle.evm_scene.specs.Tables.{Table, node_at, reads_at, kept, node_dim, dim
 use Rattle.evm_scene.specs.Orders.{IsKept, meets, Parted}
 use Rattle.evm_formulas.specs.Changes.{after_of, IsChange}
 use Rattle.evm_scene.specs.Changes.{Pending, change_at, moved, moved_node, put_all, IsCount, MovesNode, IsRedefined, IsInstalled}
-use Rattle.evm_scene.proofs.Puts.{node_put_all, length_put_all, moved_none}
-use Rattle.evm_scene.proofs.Mades.{node_made, length_made}
+use Rattle.evm_scene.proofs.Puts.{node_put, node_put_all, length_put, length_put_all, moved_none}
 use Rattle.evm_scene.proofs.Views.{view_put_all, view_put_formula, reached}
 use Rattle.evm_scene.proofs.Parts.{meets_none, seen_of}
 use Rattle.evm_scene.proofs.Redefined.{kept_redefined, redefined_stands, redefined_values}
@@ -35,7 +35,7 @@ module _ (t u : Table) (order front reach : List (List ℕ)) (name : List ℕ) (
   rest_at x d = installed.without x ∙ ap (λ b. cond b None (change_at p x)) (name_sym name x ∙ d)
 
   at_place : (x : List ℕ) → node_at u x ≡ cond (bytes_eq name x) (option_map (λ n. with_made n f installed.own.after) (node_at (put_all t installed.rest) x)) (node_at (put_all t installed.rest) x)
-  at_place x = ap (λ v. node_at v x) installed.placed ∙ node_made (put_all t installed.rest) name f installed.own.after x
+  at_place x = ap (λ v. node_at v x) installed.placed ∙ node_put (λ n. with_made n f installed.own.after) (put_all t installed.rest) name x
 
   places : (x : List ℕ) → bytes_eq x name ≡ false → node_at u x ≡ moved_node (node_at t x) (change_at p x)
   places x d =
@@ -62,7 +62,7 @@ module _ (t u : Table) (order front reach : List (List ℕ)) (name : List ℕ) (
   own_solid = sym (ap (λ c. after_of c (kept t name)) installed.here)
 
   size : length u ≡ length t
-  size = ap length installed.placed ∙ length_made (put_all t installed.rest) name f installed.own.after ∙ length_put_all t installed.rest
+  size = ap length installed.placed ∙ length_put (λ n. with_made n f installed.own.after) (put_all t installed.rest) name ∙ length_put_all t installed.rest
 
   kept_from : (o : Option Node) → node_at t name ≡ o → is_some o ≡ true → IsKept u (front ++ reach)
   kept_from None at h = absurd (true≢false (sym h))
@@ -102,10 +102,7 @@ module _ (t u : Table) (order front reach : List (List ℕ)) (name : List ℕ) (
   own_change = subst (λ c. IsChange c (kept t name)) noted (redefined.carried.change name)
 
   same_change : installed.own ≡ redefined.own
-  same_change = some_change installed.own redefined.own (sym installed.here ∙ noted)
-    where
-      some_change : (a b : Change) → Some a ≡ Some b → a ≡ b
-      some_change a b h = cc
+  same_change = same_Some installed.own redefined.own (sym installed.here ∙ noted)
 
   free : (o : List ℕ) → is_among o (operands f) ≡ true → is_among o reach ≡ false
   free o k = meets_none reach (operands f) miss o k

@@ -1,5 +1,6 @@
 -- What a table keeps once the changes are in place.
 use Rattle.std.proofs.Common.{◌≡◌, ℕ, Bool, true, false, List, [], Option, None, Some, refl, sym, ap, subst, ◌∙◌, true≢false, is_some, length, bytes_eq}
+use Rattle.std.proofs.lemmas.Option.{none-some}
 use Rattle.evm_script.specs.declared.formula.Formula.{Formula}
 use Rattle.evm_model.specs.Figures.{Figure}
 use Rattle.evm_model.specs.Scene.{formula_value}
@@ -51,10 +52,7 @@ fixed_moved (Some n) None f h = made_fixed (figure_of n.solid) n.formula f h
 fixed_moved (Some n) (Some c) f h = made_fixed (figure_of c.after) n.formula f h
 
 pub value_formula : (n : Option Node) (g : Formula) (f : List ℕ → Figure) → node_formula n ≡ Some g → node_value n f ≡ formula_value g f
-value_formula None g f h = never h
-  where
-    never : {X : Type 0} → (let o : Option Formula = None in o ≡ Some g) → X
-    never e = cc
+value_formula None g f h = absurd (none-some g h)
 value_formula (Some n) g f h = ap (λ m. made_value (figure_of n.solid) m f) h
 
 pub stays_moved : (n : Option Node) (c : Option Change) (f : List ℕ → Figure) → node_stays (moved_node n c) f ≡ node_stays n f

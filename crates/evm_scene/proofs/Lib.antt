@@ -12,7 +12,6 @@ pub mod Stuck
 pub mod Puts
 pub mod Kepts
 pub mod NewNames
-pub mod Mades
 pub mod Redefined
 pub mod Installed
 pub mod OwnLast

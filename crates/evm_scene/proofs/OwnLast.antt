@@ -1,6 +1,7 @@
 -- An input gets another solid: its own change is put in place after the others.
 use Rattle.std.proofs.Common.{◌≡◌, ℕ, Bool, true, false, cond, List, [], ◌∷◌, Option, None, Some, refl, sym, ap, subst, ◌∙◌, true≢false, is_some, bytes_eq}
 use Rattle.std.specs.Prelude.{option_map}
+use Rattle.std.proofs.lemmas.Option.{same_Some, none-some}
 use Rattle.evm_cells.specs.Vertices.{cells}
 use Rattle.evm_model.specs.Scene.{Entry, Given, with_entry, with_figure}
 use Rattle.evm_model.proofs.Names.{same_name, name_itself, name_sym}
@@ -28,7 +29,7 @@ module _ (t : Table) (order : List (List ℕ)) (name : List ℕ) (old p q : Pend
   rest_at x d = without x ∙ ap (λ b. cond b None (change_at p x)) d
 
   pub input_places : (x : List ℕ) → node_at (put_solid (put_all t q) name seed.after) x ≡ moved_node (node_at t x) (change_at p x)
-  input_places x = node_put (put_all t q) name seed.after x ∙ by (bytes_eq name x) refl
+  input_places x = node_put (λ n. with_solid n seed.after) (put_all t q) name x ∙ by (bytes_eq name x) refl
     where
       by : (b : Bool) → bytes_eq name x ≡ b
           → cond (bytes_eq name x) (option_map (λ n. with_solid n seed.after) (node_at (put_all t q) x)) (node_at (put_all t q) x) ≡ moved_node (node_at t x) (change_at p x)
@@ -51,7 +52,7 @@ module _ (t : Table) (order : List (List ℕ)) (name : List ℕ) (old p q : Pend
 
   pub input_kept : IsKept (put_solid (put_all t q) name seed.after) order
   input_kept = kept_again t (put_solid (put_all t q) name seed.after) order [] name old p before carried input_places
-      (length_put (put_all t q) name seed.after ∙ length_put_all t q)
+      (length_put (λ n. with_solid n seed.after) (put_all t q) name ∙ length_put_all t q)
       (formula_none (node_at t name) input)
 
   pub input_stands : (x : List ℕ) → is_some (node_at (put_solid (put_all t q) name seed.after) x) ≡ is_some (node_at t x)
@@ -99,16 +100,10 @@ module _ (t : Table) (order : List (List ℕ)) (name : List ℕ) (old p q : Pend
 
 -- the change that was noted for the name itself
 pub own_change : (t : Table) (name : List ℕ) (ch own : Change) (p : Pending) → IsCarried t [] name ((name, ch) ∷ []) p → Some own ≡ change_at p name → own ≡ ch
-own_change t name ch own p carried e = same own ch (e ∙ carried.seed ∙ ap (λ b. cond b (Some ch) None) (name_itself name))
-  where
-    same : (a b : Change) → Some a ≡ Some b → a ≡ b
-    same a b h = cc
+own_change t name ch own p carried e = same_Some own ch (e ∙ carried.seed ∙ ap (λ b. cond b (Some ch) None) (name_itself name))
 
 pub own_there : (t : Table) (name : List ℕ) (ch : Change) (p : Pending) → IsCarried t [] name ((name, ch) ∷ []) p → (let o : Option Change = None in o ≡ change_at p name) → ⊥
-own_there t name ch p carried e = never ch (e ∙ carried.seed ∙ ap (λ b. cond b (Some ch) None) (name_itself name))
-  where
-    never : (a : Change) → None ≡ Some a → ⊥
-    never a h = cc
+own_there t name ch p carried e = none-some ch (e ∙ carried.seed ∙ ap (λ b. cond b (Some ch) None) (name_itself name))
 
 pub own_noted : (t : Table) (front : List (List ℕ)) (name : List ℕ) (ch : Change) (p : Pending) → IsCarried t front name ((name, ch) ∷ []) p → is_some (change_at p name) ≡ true
 own_noted t front name ch p carried = ap (λ (o : Option Change). is_some o) (carried.seed ∙ ap (λ b. cond b (Some ch) None) (name_itself name))

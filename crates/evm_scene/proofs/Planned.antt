@@ -8,8 +8,8 @@ use Rattle.evm_model.specs.Scene.{Scene, stands, is_input, dim_of, value, with_f
 use Rattle.evm_model.specs.Edits.{Edit, Code, Name, Kind, Dim, Range, first_cause, box_causes, value_causes, refusal, after, changed, changed_names, with_box}
 use Rattle.evm_scene.specs.declared.node.Node.{Node}
 use Rattle.evm_formulas.specs.declared.changes.Change.{Change}
-use Rattle.evm_scene.specs.declared.boxes.BoxEdit.{BoxEdit}
-use Rattle.evm_scene.specs.declared.boxes.BoxEdit.TheVariants.{Toggle, Add, Cut}
+use Rattle.evm_scene.specs.declared.edit.BoxEdit.{BoxEdit}
+use Rattle.evm_scene.specs.declared.edit.BoxEdit.TheVariants.{Toggle, Add, Cut}
 use Rattle.evm_scene.specs.declared.edit.Refusal.{Refusal}
 use Rattle.evm_scene.specs.declared.edit.Refusal.TheVariants as why
 use Rattle.evm_formulas.specs.Stated.{figure_of}

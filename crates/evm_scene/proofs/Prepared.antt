@@ -2,6 +2,7 @@
 use Rattle.std.proofs.Common.{◌≡◌, ℕ, zero, suc, Bool, true, false, cond, ◌||◌, List, [], ◌∷◌, map, take, Option, None, Some, refl, sym, ap, subst, ◌∙◌, true≢false, is_some, slice_get, bytes_eq, length, ◌+◌, ◌≤◌, arith}
 use Rattle.std.specs.List.{list_any, IsDistinct}
 use Rattle.std.specs.Map.{keys_of}
+use Rattle.std.proofs.lemmas.Option.{same_Some, none-some}
 use Rattle.evm_rows.specs.Rows.{Vertices}
 use Rattle.evm_meter.specs.Meters.{measured}
 use Rattle.evm_model.specs.Figures.{Figure, xor_of}
@@ -18,12 +19,6 @@ use Rattle.evm_formulas.specs.Changes.{IsChange}
 use Rattle.evm_scene.specs.Changes.{Pending, change_at}
 use Rattle.evm_scene.specs.Watched.{Follows, AllFollow, IsWatched, or_after, prepared_by}
 
-same_some : {A : Type 0} (a b : A) → Some a ≡ Some b → a ≡ b
-same_some a b e = cc
-
-none_some : {A C : Type 0} (a : A) → (let o : Option A = None in o ≡ Some a) → C
-none_some a e = cc
-
 -- ---- one more change
 
 abbrev or_else : Option Change → Option Change → Option Change
@@ -35,8 +30,8 @@ or_none None = refl
 or_none (Some c) = refl
 
 take_more : (p : Pending) (k : ℕ) (e : List ℕ × Change) (y : List ℕ) → slice_get p k ≡ Some e → change_at (take (suc k) p) y ≡ or_else (change_at (take k p) y) (cond (bytes_eq y e.0) (Some e.1) None)
-take_more [] k e y h = none_some e h
-take_more (a ∷ p) zero e y h = ap (λ (d : List ℕ × Change). cond (bytes_eq y d.0) (Some d.1) None) (same_some a e h)
+take_more [] k e y h = absurd (none-some e h)
+take_more (a ∷ p) zero e y h = ap (λ (d : List ℕ × Change). cond (bytes_eq y d.0) (Some d.1) None) (same_Some a e h)
 take_more (a ∷ p) (suc k) e y h = by (bytes_eq y a.0) (take_more p k e y h)
   where
     by : (b : Bool) → change_at (take (suc k) p) y ≡ or_else (change_at (take k p) y) (cond (bytes_eq y e.0) (Some e.1) None)
@@ -45,8 +40,8 @@ take_more (a ∷ p) (suc k) e y h = by (bytes_eq y a.0) (take_more p k e y h)
     by false q = q
 
 key_there : (p : Pending) (k : ℕ) (e : List ℕ × Change) → slice_get p k ≡ Some e → is_among e.0 (keys_of p) ≡ true
-key_there [] k e h = none_some e h
-key_there (a ∷ p) zero e h = or_left (bytes_eq e.0 a.0) (is_among e.0 (keys_of p)) (ap (λ (d : List ℕ × Change). bytes_eq e.0 d.0) (same_some a e h) ∙ name_itself e.0)
+key_there [] k e h = absurd (none-some e h)
+key_there (a ∷ p) zero e h = or_left (bytes_eq e.0 a.0) (is_among e.0 (keys_of p)) (ap (λ (d : List ℕ × Change). bytes_eq e.0 d.0) (same_Some a e h) ∙ name_itself e.0)
 key_there (a ∷ p) (suc k) e h = or_right (bytes_eq e.0 a.0) (is_among e.0 (keys_of p)) (key_there p k e h)
 
 -- a change of another name stands before it
@@ -56,7 +51,7 @@ apart a p k e d h =
 
 -- no change of the name stands before it
 first_of : (p : Pending) (k : ℕ) (e : List ℕ × Change) → AllDiffer (keys_of p) → slice_get p k ≡ Some e → change_at (take k p) e.0 ≡ None
-first_of [] k e d h = none_some e h
+first_of [] k e d h = absurd (none-some e h)
 first_of (a ∷ p) zero e d h = refl
 first_of (a ∷ p) (suc k) e d h = ap (λ b. cond b (Some a.1) (change_at (take k p) e.0)) (apart a p k e d.0 h) ∙ first_of p k e d.1 h
 
@@ -110,8 +105,8 @@ reads_one f p name a (Watches kind other reading pending) c e h = λ w. (
 )
 
 reads_all : (f : List ℕ → Figure) (p : Pending) (name : List ℕ) (a : Vertices) (slots : List Seen) → change_at p name ≡ None → figure_of a ≡ f name → AllFollow f slots → EachReads name a (map (prepared_by p) slots)
-reads_all f p name a [] c e h k s q = none_some s q
-reads_all f p name a (x ∷ ss) c e h zero s q = subst (SeenReads name a) (same_some (prepared_by p x) s q) (reads_one f p name a x c e (h zero x refl))
+reads_all f p name a [] c e h k s q = absurd (none-some s q)
+reads_all f p name a (x ∷ ss) c e h zero s q = subst (SeenReads name a) (same_Some (prepared_by p x) s q) (reads_one f p name a x c e (h zero x refl))
 reads_all f p name a (x ∷ ss) c e h (suc k) s q = reads_all f p name a ss c e (λ j z r. h (suc j) z r) k s q
 
 pub each_reads : (t : Table) (p : Pending) (k : ℕ) (e : List ℕ × Change) (slots now : List Seen) → IsWatched t slots → IsDistinct bytes_eq (keys_of p) → slice_get p k ≡ Some e → now ≡ map (prepared_by (take k p)) slots
@@ -134,9 +129,9 @@ watched_stands t p slots now x w q h = w.stand x (sym (ap (λ (l : List Seen). l
 
 -- the change of a name that is noted at a place
 noted_at : (p : Pending) (k : ℕ) (e : List ℕ × Change) → AllDiffer (keys_of p) → slice_get p k ≡ Some e → change_at p e.0 ≡ Some e.1
-noted_at [] k e d h = none_some e h
+noted_at [] k e d h = absurd (none-some e h)
 noted_at (a ∷ p) zero e d h =
-    subst (λ (b : List ℕ × Change). cond (bytes_eq e.0 b.0) (Some b.1) (change_at p e.0) ≡ Some e.1) (sym (same_some a e h))
+    subst (λ (b : List ℕ × Change). cond (bytes_eq e.0 b.0) (Some b.1) (change_at p e.0) ≡ Some e.1) (sym (same_Some a e h))
     (ap (λ b. cond b (Some e.1) (change_at p e.0)) (name_itself e.0))
 noted_at (a ∷ p) (suc k) e d h = ap (λ b. cond b (Some a.1) (change_at p e.0)) (apart a p k e d.0 h) ∙ noted_at p k e d.1 h
 

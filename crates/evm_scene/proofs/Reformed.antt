@@ -3,6 +3,7 @@ use Rattle.std.proofs.Common.{◌≡◌, ℕ, ◌==◌, Bool, true, false, not, 
 use Rattle.std.specs.Prelude.{option_map}
 use Rattle.std.specs.List.{IsDistinct}
 use Rattle.std.specs.Map.{keys_of}
+use Rattle.std.proofs.lemmas.Option.{same_Some, none-some}
 use Rattle.evm_delta.specs.declared.shapes.DeltaError.{DeltaError}
 use Rattle.evm_delta.specs.declared.shapes.DeltaError.TheVariants as errors
 use Rattle.evm_rows.specs.Rows.{Vertices}
@@ -148,12 +149,6 @@ other_dim t name f n m standing e h d =
 pub given_input : (t : Table) (name : List ℕ) → option_map (λ (n : Node). is_some n.formula) (node_at t name) ≡ Some false → is_input (scene_of t) name ≡ true
 given_input t name h = input_at t name ∙ by (node_at t name) h
   where
-    same_bool : (a b : Bool) → Some a ≡ Some b → a ≡ b
-    same_bool a b e = cc
-
-    no_bool : None ≡ Some false → ⊥
-    no_bool e = cc
-
     by : (n : Option Node) → option_map (λ (m : Node). is_some m.formula) n ≡ Some false → is_given n ≡ true
-    by None k = absurd (no_bool k)
-    by (Some n) k = ap not (same_bool (is_some n.formula) false k)
+    by None k = absurd (none-some false k)
+    by (Some n) k = ap not (same_Some (is_some n.formula) false k)

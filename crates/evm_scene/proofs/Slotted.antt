@@ -3,6 +3,7 @@ use Rattle.std.proofs.Common.{◌≡◌, ℕ, zero, suc, false, cond, List, [], 
 use Rattle.std.specs.List.{list_any, IsDistinct}
 use Rattle.std.specs.Map.{keys_of}
 use Rattle.std.proofs.lemmas.Int.{ints as int_facts}
+use Rattle.std.proofs.lemmas.Option.{same_Some, none-some}
 use Rattle.evm_cells.specs.Localities.{Measure}
 use Rattle.evm_cells.proofs.Coords.{lt_no}
 use Rattle.evm_model.specs.Figures.{Figure}
@@ -18,8 +19,8 @@ use Rattle.evm_scene.specs.Tables.{Table, kept, entries_of, scene_of}
 use Rattle.evm_scene.specs.Orders.{IsKept}
 use Rattle.evm_scene.specs.Watched.{slot_of, slots_of, Follows, AllFollow, IsWatched, watched_scene}
 use Rattle.evm_scene.specs.Applied.{Applies}
-use Rattle.evm_scene.specs.declared.boxes.BoxEdit.{BoxEdit}
-use Rattle.evm_scene.specs.declared.boxes.BoxEdit.TheVariants as boxes
+use Rattle.evm_scene.specs.declared.edit.BoxEdit.{BoxEdit}
+use Rattle.evm_scene.specs.declared.edit.BoxEdit.TheVariants as boxes
 use Rattle.evm_scene.specs.InputEdits.{edit_by}
 use Rattle.evm_scene.proofs.Views.{stands_at}
 use Rattle.evm_scene.proofs.Wells.{well_kept}
@@ -52,14 +53,8 @@ applies_watched r t u old new edit d h same =
 -- ---- new scenes
 
 follows_free : {X : Type 0} (kind : X → Measure) (meters : List X) (at : List ℕ → Figure) → AllFollow at (map (λ m. Free (kind m)) meters)
-follows_free kind [] at k s h = none h
-  where
-    none : {C : Type 0} → (let o : Option Seen = None in o ≡ Some s) → C
-    none e = cc
-follows_free kind (m ∷ ms) at zero s h = subst (Follows at) (same_some (Free (kind m)) s h) tt
-  where
-    same_some : (a b : Seen) → Some a ≡ Some b → a ≡ b
-    same_some a b e = cc
+follows_free kind [] at k s h = absurd (none-some s h)
+follows_free kind (m ∷ ms) at zero s h = subst (Follows at) (same_Some (Free (kind m)) s h) tt
 follows_free kind (m ∷ ms) at (suc k) s h = follows_free kind ms at k s h
 
 watches_free : {X : Type 0} (kind : X → Measure) (meters : List X) (x : List ℕ) → list_any (seen_watches x) (map (λ m. Free (kind m)) meters) ≡ false

@@ -1,6 +1,7 @@
 -- What the entries of a table say of its nodes, and how they change with it.
 use Rattle.std.proofs.Common.{◌≡◌, ℕ, zero, suc, Bool, true, false, cond, not, ◌||◌, List, [], ◌∷◌, ◌++◌, Option, None, Some, refl, sym, ap, subst, ◌∙◌, true≢false, is_some, length, map, slice_get, bytes_eq, arith}
 use Rattle.std.specs.Prelude.{option_map}
+use Rattle.std.proofs.lemmas.Option.{same_Some, none-some}
 use Rattle.evm_cells.specs.Vertices.{cells}
 use Rattle.evm_rows.specs.Rows.{Vertices}
 use Rattle.evm_script.specs.declared.formula.Formula.{Formula}
@@ -168,9 +169,6 @@ stays_same (Some n) g h same = by n.formula same
     by None k = refl
     by (Some f) k = formula_stays_same f g h k
 
-same_some : (a b : Node) → Some a ≡ Some b → a ≡ b
-same_some a b h = cc
-
 shown_made : (m : Option Formula) (s r : Vertices) → is_some m ≡ true → what_of s m ≡ what_of r m
 shown_made None s r h = absurd (true≢false (sym h))
 shown_made (Some f) s r h = refl
@@ -198,7 +196,7 @@ view_put_given (e ∷ es) y s n at h = by (bytes_eq y e.0) refl (λ d. view_put_
     by : (b : Bool) → bytes_eq y e.0 ≡ b → (bytes_eq y e.0 ≡ false → entries_of (put_solid es y s) ≡ with_entry (entries_of es) y (record { name = y; dim = n.dim; what = Given (cells s.dim s.rows) }))
         → entries_of (put_solid (e ∷ es) y s) ≡ with_entry (entries_of (e ∷ es)) y (record { name = y; dim = n.dim; what = Given (cells s.dim s.rows) })
     by true d more =
-        let m : e.1 ≡ n = same_some e.1 n (sym (ap (λ b. cond b (Some e.1) (node_at es y)) d) ∙ at) in
+        let m : e.1 ≡ n = same_Some e.1 n (sym (ap (λ b. cond b (Some e.1) (node_at es y)) d) ∙ at) in
         ap (λ b. entries_of (cond b ((e.0, with_solid e.1 s) ∷ es) (e ∷ put_solid es y s))) d
         ∙ ap (λ (v : List ℕ). record { name = v; dim = e.1.dim; what = what_of s e.1.formula } ∷ entries_of es) (sym (same_name y e.0 d))
         ∙ ap (λ (k : Node). record { name = y; dim = k.dim; what = what_of s k.formula } ∷ entries_of es) m
@@ -215,7 +213,7 @@ view_put_formula (e ∷ es) y f s n at = by (bytes_eq y e.0) refl (λ d. view_pu
     by : (b : Bool) → bytes_eq y e.0 ≡ b → (bytes_eq y e.0 ≡ false → entries_of (put_made es y f s) ≡ with_entry (entries_of es) y (record { name = y; dim = n.dim; what = Made f }))
         → entries_of (put_made (e ∷ es) y f s) ≡ with_entry (entries_of (e ∷ es)) y (record { name = y; dim = n.dim; what = Made f })
     by true d more =
-        let m : e.1 ≡ n = same_some e.1 n (sym (ap (λ b. cond b (Some e.1) (node_at es y)) d) ∙ at) in
+        let m : e.1 ≡ n = same_Some e.1 n (sym (ap (λ b. cond b (Some e.1) (node_at es y)) d) ∙ at) in
         ap (λ b. entries_of (cond b ((e.0, with_made e.1 f s) ∷ es) (e ∷ put_made es y f s))) d
         ∙ ap (λ (v : List ℕ). record { name = v; dim = e.1.dim; what = Made f } ∷ entries_of es) (sym (same_name y e.0 d))
         ∙ ap (λ (k : Node). record { name = y; dim = k.dim; what = Made f } ∷ entries_of es) m
@@ -264,13 +262,7 @@ view_push [] name node = refl
 view_push (p ∷ ps) name node = ap (λ l. entry_view p ∷ l) (view_push ps name node)
 
 -- the name of the entry at a place
-same_pair : (p q : List ℕ × Node) → Some p ≡ Some q → p ≡ q
-same_pair p q h = cc
-
 pub name_shown : (t : Table) (k : ℕ) (p : List ℕ × Node) → slice_get t k ≡ Some p → slice_get (map name_of_entry (entries_of t)) k ≡ Some p.0
-name_shown [] k p h = absurd (no_pair h)
-  where
-    no_pair : None ≡ Some p → ⊥
-    no_pair q = cc
-name_shown (e ∷ es) zero p h = ap (λ (q : List ℕ × Node). Some q.0) (same_pair e p h)
+name_shown [] k p h = absurd (none-some p h)
+name_shown (e ∷ es) zero p h = ap (λ (q : List ℕ × Node). Some q.0) (same_Some e p h)
 name_shown (e ∷ es) (suc k) p h = name_shown es k p h

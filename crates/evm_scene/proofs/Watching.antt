@@ -1,6 +1,7 @@
 -- What slots keep where the table below them changes.
 use Rattle.std.proofs.Common.{◌≡◌, ℕ, zero, suc, Bool, true, false, cond, ◌||◌, List, [], ◌∷◌, map, Option, None, Some, refl, sym, ap, subst, ◌∙◌, true≢false, is_some, slice_get, bytes_eq}
 use Rattle.std.specs.List.{list_any}
+use Rattle.std.proofs.lemmas.Option.{same_Some, none-some}
 use Rattle.evm_model.specs.Figures.{Figure}
 use Rattle.evm_model.specs.Scene.{measure_of, slot_watches}
 use Rattle.evm_model.proofs.Names.{or_left, or_right, same_name, name_itself}
@@ -13,12 +14,6 @@ use Rattle.evm_formulas.specs.Changes.{after_of}
 use Rattle.evm_scene.specs.Changes.{Pending, change_at, moved}
 use Rattle.evm_scene.specs.Watched.{slot_of, slots_of, Follows, AllFollow, IsWatched, StaysWatched, or_after, prepared_by}
 
-same_some : {A : Type 0} (a b : A) → Some a ≡ Some b → a ≡ b
-same_some a b e = cc
-
-no_slot : {C : Type 0} (s : Seen) → (let o : Option Seen = None in o ≡ Some s) → C
-no_slot s e = cc
-
 -- a slot watches the same names as the model words it
 pub same_watched : (slots : List Seen) (x : List ℕ) → some_watches (slots_of slots) x ≡ list_any (seen_watches x) slots
 same_watched [] x = refl
@@ -30,8 +25,8 @@ same_watched (s ∷ ss) x = λ i. one s i || same_watched ss x i
     one Gone = refl
 
 seen_any : (slots : List Seen) (k : ℕ) (s : Seen) (x : List ℕ) → slice_get slots k ≡ Some s → seen_watches x s ≡ true → list_any (seen_watches x) slots ≡ true
-seen_any [] k s x h w = no_slot s h
-seen_any (a ∷ ss) zero s x h w = or_left (seen_watches x a) (list_any (seen_watches x) ss) (ap (seen_watches x) (same_some a s h) ∙ w)
+seen_any [] k s x h w = absurd (none-some s h)
+seen_any (a ∷ ss) zero s x h w = or_left (seen_watches x a) (list_any (seen_watches x) ss) (ap (seen_watches x) (same_Some a s h) ∙ w)
 seen_any (a ∷ ss) (suc k) s x h w = or_right (seen_watches x a) (list_any (seen_watches x) ss) (seen_any ss k s x h w)
 
 -- ---- the slots stay
@@ -84,9 +79,9 @@ committed_one t u p Gone e h = tt
 
 committed_all : (t u : Table) (p : Pending) (slots : List Seen) → ((x : List ℕ) → list_any (seen_watches x) slots ≡ true → moved t p x ≡ kept u x) → AllFollow (kept t) slots
     → AllFollow (kept u) (map seen_committed (map (prepared_by p) slots))
-committed_all t u p [] e h k s q = no_slot s q
+committed_all t u p [] e h k s q = absurd (none-some s q)
 committed_all t u p (a ∷ ss) e h zero s q =
-    subst (Follows (kept u)) (same_some (seen_committed (prepared_by p a)) s q)
+    subst (Follows (kept u)) (same_Some (seen_committed (prepared_by p a)) s q)
     (committed_one t u p a (λ x w. e x (or_left (seen_watches x a) (list_any (seen_watches x) ss) w)) (h zero a refl))
 committed_all t u p (a ∷ ss) e h (suc k) s q =
     committed_all t u p ss (λ x w. e x (or_right (seen_watches x a) (list_any (seen_watches x) ss) w)) (λ j z r. h (suc j) z r) k s q

@@ -3,6 +3,7 @@ use Rattle.std.proofs.Common.{◌≡◌, ℕ, Bool, true, not, ◌||◌, List, [
 use Rattle.std.proofs.lemmas.Bool.{false≢true}
 use Rattle.std.specs.Prelude.{option_map}
 use Rattle.std.specs.List.{list_any, IsDistinct}
+use Rattle.std.proofs.lemmas.Option.{same_Some, none-some}
 use Rattle.evm_cells.specs.Limits.{IsCellSet}
 use Rattle.evm_cells.specs.Vertices.{cells}
 use Rattle.evm_cells.proofs.Universe.{cell_set-cells}
@@ -41,18 +42,9 @@ module _ (t : Table) (order : List (List ℕ)) (k : IsKept t order) where
   by_node : (C : Entry → Type 0) → ((x : List ℕ) (n : Node) → node_at t x ≡ Some n → C (entry_view (x, n))) → (x : List ℕ) (e : Entry) → entry_of (entries_of t) x ≡ Some e → C e
   by_node C h x e q = by (node_at t x) refl (sym (entry_at t x) ∙ q)
     where
-      same_entry : (a b : Entry) → Some a ≡ Some b → a ≡ b
-      same_entry a b s = cc
-
-      never : {D : Type 0} → None ≡ Some e → D
-      never s = absurd (no_entry s)
-        where
-          no_entry : None ≡ Some e → ⊥
-          no_entry r = cc
-
       by : (o : Option Node) → node_at t x ≡ o → option_map (λ n. entry_view (x, n)) o ≡ Some e → C e
-      by None at s = never s
-      by (Some n) at s = subst C (same_entry (entry_view (x, n)) e s) (h x n at)
+      by None at s = absurd (none-some e s)
+      by (Some n) at s = subst C (same_Some (entry_view (x, n)) e s) (h x n at)
 
   node_sized_at : (x : List ℕ) (n : Node) → node_at t x ≡ Some n → NodeSized (Some n) (dim_at t)
   node_sized_at x n at = subst (λ o. NodeSized o (dim_at t)) at (k.sized x)

@@ -3,18 +3,17 @@ use Rattle.std.specs.Prelude.{◌≡◌, None, Some, Result, Ok, Err}
 use Rattle.evm_model.specs.Scene.{Scene}
 use Rattle.evm_model.specs.Edits as model
 use Rattle.evm_scene.specs.declared.edit.Edit.{Edit}
-use Rattle.evm_scene.specs.declared.edit.Edit.TheVariants.{Input, Toggle, Add, Cut, Replace, Def, Drop}
+use Rattle.evm_scene.specs.declared.edit.Edit.TheVariants.{Input, Box, Replace, Def, Drop}
 use Rattle.evm_scene.specs.declared.edit.Refusal.{Refusal}
 use Rattle.evm_scene.specs.declared.edit.Refusal.TheVariants.{Name, Taken, Kind, Used, Cycle, Dim, Range, NoMemory}
 use Rattle.evm_scene.specs.declared.edit.Changed.{Changed}
 use Rattle.evm_formulas.specs.Stated.{figure_of}
+use Rattle.evm_scene.specs.InputEdits.{edit_by}
 
 -- the edit, as the model words it
 abbrev pub edit_view : Edit → model.Edit
 edit_view (Input name dim) = model.Input name dim
-edit_view (Toggle name nums) = model.Toggle name nums
-edit_view (Add name nums) = model.Add name nums
-edit_view (Cut name nums) = model.Cut name nums
+edit_view (Box how name nums) = edit_by how name nums
 edit_view (Replace name solid) = model.Replace name (figure_of solid)
 edit_view (Def name formula) = model.Def name formula
 edit_view (Drop name) = model.Drop name

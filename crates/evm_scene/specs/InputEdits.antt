@@ -7,8 +7,8 @@ use Rattle.evm_formulas.specs.Stated.{figure_of}
 use Rattle.evm_scene.specs.Tables.{Table, node_at, kept, is_made, scene_of}
 use Rattle.evm_formulas.specs.Changes.{IsChange}
 use Rattle.evm_formulas.specs.declared.changes.Change.{Change}
-use Rattle.evm_scene.specs.declared.boxes.BoxEdit.{BoxEdit}
-use Rattle.evm_scene.specs.declared.boxes.BoxEdit.TheVariants.{Toggle, Add, Cut}
+use Rattle.evm_scene.specs.declared.edit.BoxEdit.{BoxEdit}
+use Rattle.evm_scene.specs.declared.edit.BoxEdit.TheVariants.{Toggle, Add, Cut}
 use Rattle.evm_scene.specs.declared.edit.Refusal.{Refusal}
 use Rattle.evm_scene.specs.declared.edit.Refusal.TheVariants.{Name, Taken, Kind, Used, Cycle, Dim, Range, NoMemory}
 

@@ -83,21 +83,24 @@ abbrev pub node_stays : Option Node → (List ℕ → Figure) → Bool
 node_stays None at = true
 node_stays (Some n) at = made_stays n.formula at
 
+-- the table where the node of a name becomes another
+abbrev pub put_node : (Node → Node) → Table → List ℕ → Table
+put_node to [] x = []
+put_node to (e ∷ es) x = if bytes_eq x e.0 then (e.0, to e.1) ∷ es else e ∷ put_node to es x
+
 -- the node with another solid, and the table with another solid under a name
 abbrev pub with_solid : Node → Vertices → Node
 with_solid n s = record n { solid = s }
 
 abbrev pub put_solid : Table → List ℕ → Vertices → Table
-put_solid [] x s = []
-put_solid (e ∷ es) x s = if bytes_eq x e.0 then (e.0, with_solid e.1 s) ∷ es else e ∷ put_solid es x s
+put_solid t x s = put_node (λ n. with_solid n s) t x
 
 -- the same with another formula too
 abbrev pub with_made : Node → Formula → Vertices → Node
 with_made n f s = record n { formula = Some f; solid = s }
 
 abbrev pub put_made : Table → List ℕ → Formula → Vertices → Table
-put_made [] x f s = []
-put_made (e ∷ es) x f s = if bytes_eq x e.0 then (e.0, with_made e.1 f s) ∷ es else e ∷ put_made es x f s
+put_made t x f s = put_node (λ n. with_made n f s) t x
 
 -- the scene that a table shows, without slots: of an input its cells, of a formula the formula
 abbrev pub what_of : Vertices → Option Formula → What

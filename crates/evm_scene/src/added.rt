@@ -12,9 +12,10 @@ ghost use Rattle.evm_scene.specs.Orders.{IsKept};
 use super::edit::{Changed, Refusal};
 use super::node::Node;
 use super::numbers::stated;
-use evm_formulas::solids::{none, tree_of};
+use evm_formulas::solids::none;
 use evm_rows::NoMemory;
 use evm_script::{Name, Num};
+use evm_tiles::Tiles;
 use indexmap::IndexMap;
 use std::alloc::Global;
 
@@ -84,8 +85,7 @@ pub fn input(
     let Some(n) = stated(dim) else {
         return Err(Refusal::Dim);
     };
-    let none = none(alloc, n);
-    let Ok(solid) = tree_of(alloc, &none) else {
+    let Ok(solid) = Tiles::from_solid(alloc, none(alloc, n)) else {
         return Err(Refusal::NoMemory);
     };
     let node = Node {

@@ -1,18 +1,15 @@
 //! Edits of a scene.
 
-ghost use Rattle.std.specs.Prelude.{◌≡◌};
 ghost use Rattle.evm_scene.specs.Applied.{Applies, edit_view};
-ghost use Rattle.evm_scene.specs.InputEdits.{edit_by};
 
 use super::added::input;
-use super::boxes::{BoxEdit, edit_by_box};
+use super::boxes::edit_by_box;
 use super::defined::define;
 use super::edit::{Changed, Edit, Refusal};
 use super::removed::remove;
 use super::replaced::replace;
 use super::scene::Scene;
 use evm_meter::Meter;
-use evm_script::{Name, Nums};
 use std::alloc::Global;
 
 impl<M: Meter> Scene<M> {
@@ -28,9 +25,17 @@ impl<M: Meter> Scene<M> {
         self.facts();
         match edit {
             Edit::Input { name, dim } => input(alloc, &mut self.table, &mut self.order, name, dim),
-            Edit::Toggle { name, nums } => self.put_box(alloc, BoxEdit::Toggle, &name, &nums),
-            Edit::Add { name, nums } => self.put_box(alloc, BoxEdit::Add, &name, &nums),
-            Edit::Cut { name, nums } => self.put_box(alloc, BoxEdit::Cut, &name, &nums),
+            Edit::Box { how, name, nums } => {
+                edit_by_box(
+                    alloc,
+                    &mut self.table,
+                    &mut self.slots,
+                    self.order.as_slice(),
+                    how,
+                    &name,
+                    &nums,
+                )
+            }
             Edit::Replace { name, solid } => {
                 replace(
                     alloc,
@@ -53,26 +58,5 @@ impl<M: Meter> Scene<M> {
             }
             Edit::Drop { name } => remove(&mut self.table, &self.slots, &mut self.order, &name),
         }
-    }
-
-    /// Changes an input by a box.
-    fn put_box(
-        &mut self,
-        alloc: Global,
-        edit: BoxEdit,
-        name: &Name,
-        nums: &Nums,
-    ) -> Result<Changed, Refusal>
-        ensures { Applies result self.old self.new (edit_by edit name.now nums.now) }
-    {
-        edit_by_box(
-            alloc,
-            &mut self.table,
-            &mut self.slots,
-            self.order.as_slice(),
-            edit,
-            name,
-            nums,
-        )
     }
 }

@@ -11,8 +11,8 @@ ghost use Rattle.evm_formulas.specs.Changes.{IsChange};
 ghost use Rattle.evm_scene.specs.Applied.{Applies};
 ghost use Rattle.evm_scene.specs.InputEdits.{figure_by, edit_by, IsRefused, IsPlanned};
 
-use super::edit::{Changed, Refusal};
-use super::inputs::set_input;
+use super::edit::{BoxEdit, Changed, Refusal};
+use super::inputs::change_input;
 use super::node::Node;
 use super::numbers::box_of;
 use evm_formulas::changes::Change;
@@ -24,17 +24,6 @@ use evm_tiles::Tiles;
 use evm_watch::Slots;
 use indexmap::IndexMap;
 use std::alloc::Global;
-
-/// How a box changes an input.
-#[derive(Clone, Copy, Debug, PartialEq, Eq)]
-pub enum BoxEdit {
-    /// The cells of just one of the two stay.
-    Toggle,
-    /// The cells of the box come in.
-    Add,
-    /// The cells of the box go out.
-    Cut,
-}
 
 /// What of a solid is in the box that the numbers state.
 fn part_in(alloc: Global, own: &Tiles, nums: &Nums) -> Result<Solid, NoMemory>
@@ -168,8 +157,5 @@ pub fn edit_by_box<M: Meter>(
         Ok(change) => change,
         Err(cause) => return Err(cause),
     };
-    match set_input(alloc, table, slots, order, name, change) {
-        Ok(names) => Ok(Changed { names }),
-        Err(e) => Err(Refusal::from(e)),
-    }
+    change_input(alloc, table, slots, order, name, change)
 }

@@ -166,7 +166,7 @@ fn is_still(pending: &IndexMap<Name, Change>, name: &Name) -> bool
 /// `front` are the names before it in the order: they do not change. Where the name's own change leaves it as it is, no
 /// other name is looked at; else each later name is looked at once, and a change is made where an operand has one. It is
 /// `Range` only where the formula of such a name moves some cell out of the limits, and the name is the first of those.
-pub fn carry(
+fn carry(
     alloc: Global,
     table: &IndexMap<Name, Node>,
     front: &[Name],
@@ -202,11 +202,7 @@ pub fn carry(
 }
 
 /// Notes a change.
-pub fn put(
-    pending: &mut IndexMap<Name, Change>,
-    name: &Name,
-    change: Change,
-) -> Result<(), NoMemory>
+fn put(pending: &mut IndexMap<Name, Change>, name: &Name, change: Change) -> Result<(), NoMemory>
     ensures { OnOk result
         ((x : List ℕ) → change_at pending.new.entries x
         ≡ cond (bytes_eq name.now x) (Some change) (change_at pending.old.entries x)) }
@@ -215,4 +211,34 @@ pub fn put(
         Ok(_) => Ok(()),
         Err(_) => Err(NoMemory),
     }
+}
+
+/// All changes that follow from the change of one name, its own among them, in an order in which it comes after `front` and before
+/// `later`. It is `Range` only where a formula moves some cell out of the limits.
+pub fn carried(
+    alloc: Global,
+    table: &IndexMap<Name, Node>,
+    front: &[Name],
+    name: &Name,
+    later: &[Name],
+    change: Change,
+) -> Result<IndexMap<Name, Change>, DeltaError>
+    requires sized { AllSized table.now.entries }
+    requires fixed { AllFixed table.now.entries }
+    requires stays { AllStay table.now.entries }
+    requires front { Ordered (reads_at table.now.entries) [] front.now }
+    requires alone { is_among name.now front.now ≡ false }
+    requires later { Ordered (reads_at table.now.entries) (name.now ∷ front.now) later.now }
+    requires whole { (x : List ℕ) → is_some (node_at table.now.entries x) ≡ true
+        → is_among x (name.now ∷ front.now) ≡ false → is_among x later.now ≡ true }
+    requires change { IsChange (Some change) (kept table.now.entries name.now) }
+    ensures carried { IfOk result
+        (λ p. IsCarried table.now.entries front.now name.now ((name.now, change) ∷ []) p.entries) }
+    ensures halted { IsErrOf result DeltaError.Range
+        → IsHalted table.now.entries name.now ((name.now, change) ∷ []) }
+{
+    let mut pending = IndexMap::new(alloc);
+    put(&mut pending, name, change)?;
+    carry(alloc, table, front, name, later, &mut pending)?;
+    Ok(pending)
 }

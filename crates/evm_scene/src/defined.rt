@@ -15,7 +15,7 @@ ghost use Rattle.evm_scene.specs.Definitions.{IsFree};
 ghost use Rattle.evm_scene.specs.Applied.{Applies};
 
 use super::added::add;
-use super::carry::{carry, put};
+use super::carry::carried;
 use super::commit::{commit, take_own};
 use super::edit::{Changed, Refusal};
 use super::formulas::{dim_named, dim_stated, evaluate, lacks, solid_of};
@@ -26,7 +26,6 @@ use super::reorder::{join, part, reads_reach};
 use super::watched::prepare;
 use evm_delta::DeltaError;
 use evm_formulas::changes::{Change, changed_to};
-use evm_formulas::solids::tree_of;
 use evm_meter::Meter;
 use evm_rows::{NoMemory, Solid};
 use evm_script::{Formula, Name};
@@ -63,7 +62,7 @@ fn make(
         Ok(whole) => whole,
         Err(refusal) => return Err(refusal),
     };
-    let Ok(solid) = tree_of(alloc, &whole) else {
+    let Ok(solid) = Tiles::from_solid(alloc, whole) else {
         return Err(Refusal::NoMemory);
     };
     let node = Node {
@@ -138,36 +137,6 @@ fn free_parts(
     Ok(parts)
 }
 
-/// The changes that follow from one, in an order in which its name comes after `front`. It is `Range` only where a formula moves
-/// some cell out of the limits.
-fn seeded(
-    alloc: Global,
-    table: &IndexMap<Name, Node>,
-    front: &[Name],
-    name: &Name,
-    later: &[Name],
-    change: Change,
-) -> Result<IndexMap<Name, Change>, DeltaError>
-    requires sized { AllSized table.now.entries }
-    requires fixed { AllFixed table.now.entries }
-    requires stays { AllStay table.now.entries }
-    requires front { Ordered (reads_at table.now.entries) [] front.now }
-    requires alone { is_among name.now front.now ≡ false }
-    requires later { Ordered (reads_at table.now.entries) (name.now ∷ front.now) later.now }
-    requires whole { (x : List ℕ) → is_some (node_at table.now.entries x) ≡ true
-        → is_among x (name.now ∷ front.now) ≡ false → is_among x later.now ≡ true }
-    requires change { IsChange (Some change) (kept table.now.entries name.now) }
-    ensures carried { IfOk result
-        (λ p. IsCarried table.now.entries front.now name.now ((name.now, change) ∷ []) p.entries) }
-    ensures halted { IsErrOf result DeltaError.Range
-        → IsHalted table.now.entries name.now ((name.now, change) ∷ []) }
-{
-    let mut pending = IndexMap::new(alloc);
-    put(&mut pending, name, change)?;
-    carry(alloc, table, front, name, later, &mut pending)?;
-    Ok(pending)
-}
-
 /// All changes that follow from another solid of a formula, in an order in which it comes after its new operands. It is `Range`
 /// only where a formula moves some cell out of the limits.
 fn reformed(
@@ -194,7 +163,7 @@ fn reformed(
         unreachable!()
     };
     let change = changed_to(alloc, solid_of(table, name), after)?;
-    seeded(alloc, table, parts.front.as_slice(), name, later, change)
+    carried(alloc, table, parts.front.as_slice(), name, later, change)
 }
 
 /// Gives a name another formula and solid.

@@ -8,6 +8,17 @@ use evm_delta::DeltaError;
 use evm_rows::{NoMemory, Solid};
 use evm_script::{Formula, Name, Num, Nums};
 
+/// How a box changes an input.
+#[derive(Clone, Copy, Debug, PartialEq, Eq)]
+pub enum BoxEdit {
+    /// The cells of the box that are in the input go out of it, and the others come in.
+    Toggle,
+    /// The cells of the box come in.
+    Add,
+    /// The cells of the box go out.
+    Cut,
+}
+
 /// An edit of a scene. It owns the solid that it brings, if it brings one; what `Debug` prints leaves that out.
 #[derive(Drop)]
 #[derive_where(Debug)]
@@ -17,18 +28,9 @@ pub enum Edit {
         name: Name,
         dim: Num,
     },
-    /// The cells of a box that are in the input go out of it, and the others come in. Its lower corner stands first.
-    Toggle {
-        name: Name,
-        nums: Nums,
-    },
-    /// The cells of a box come into the input.
-    Add {
-        name: Name,
-        nums: Nums,
-    },
-    /// The cells of a box go out of the input.
-    Cut {
+    /// An input changes by a box, whose lower corner stands first.
+    Box {
+        how: BoxEdit,
         name: Name,
         nums: Nums,
     },

@@ -16,12 +16,12 @@ use super::node::Node;
 use super::numbers::{box_of, stated};
 use evm_boolean::Op2;
 use evm_delta::{DeltaError, Op1};
-use evm_formulas::operations::{Operands, Operation, operands_of, operation_of};
+use evm_formulas::operations::{Operation, operation_of};
 use evm_formulas::ranges::{is_axis, is_box, is_height, is_range, is_shift, less_one, one_more};
 use evm_formulas::shapes::shape;
 use evm_formulas::solids::combine;
 use evm_rows::{NoMemory, Solid};
-use evm_script::{Formula, Name};
+use evm_script::{Formula, Name, Operands};
 use evm_tiles::Tiles;
 use indexmap::IndexMap;
 use std::alloc::Global;
@@ -34,13 +34,14 @@ fn is_lacking(table: &IndexMap<Name, Node>, name: &Name, operand: &Name) -> bool
 }
 
 /// Whether some operand of a formula is lacking.
+#[tactic(auto, using(evm_formulas::proofs::Stated::names_read))]
 pub fn lacks(table: &IndexMap<Name, Node>, name: &Name, formula: &Formula) -> bool
     ensures { result ≡ lacks_operand (scene_of table.now.entries) name.now formula.now }
 {
-    match operands_of(formula) {
+    match formula.operands() {
         Operands::Two(a, b) => is_lacking(table, name, &a) || is_lacking(table, name, &b),
         Operands::One(a) => is_lacking(table, name, &a),
-        Operands::Zero => false,
+        Operands::None => false,
     }
 }
 

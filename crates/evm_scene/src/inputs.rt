@@ -3,6 +3,7 @@
 ghost use Rattle.std.specs.Prelude.{◌≡◌, ◌<◌, length, slice_index_or, ◌++◌, ◌∷◌, [], true, false, is_some, Some, IfOk, OnOk, OnErr, IsErrOf};
 ghost use Rattle.evm_model.specs.Orders.{is_among};
 ghost use Rattle.evm_model.specs.Scene.{with_figure, all_stay};
+ghost use Rattle.evm_model.specs.Edits as model;
 ghost use Rattle.evm_model.specs.Edits.{changed_names};
 ghost use Rattle.evm_formulas.specs.Stated.{figure_of};
 ghost use Rattle.evm_scene.specs.Tables.{node_at, kept, is_made, scene_of};
@@ -10,9 +11,12 @@ ghost use Rattle.evm_scene.specs.Watched.{IsWatched, StaysWatched};
 ghost use Rattle.evm_scene.specs.Orders.{IsKept};
 ghost use Rattle.evm_formulas.specs.Changes.{IsChange};
 ghost use Rattle.evm_scene.specs.Changes.{change_at, IsCarried, IsHalted, IsPlaced};
+ghost use Rattle.evm_scene.specs.InputEdits.{IsPlanned};
+ghost use Rattle.evm_scene.specs.Applied.{Applies};
 
-use super::carry::{carry, put};
+use super::carry::carried;
 use super::commit::{commit, set_solid, take_own};
+use super::edit::{Changed, Refusal};
 use super::node::Node;
 use super::watched::prepare;
 use evm_delta::DeltaError;
@@ -67,9 +71,7 @@ pub fn changes(
         → IsHalted table.now.entries name.now ((name.now, change) ∷ []) }
 {
     let (front, later) = around(order, name);
-    let mut pending = IndexMap::new(alloc);
-    put(&mut pending, name, change)?;
-    carry(alloc, table, front, name, later, &mut pending)?;
+    let pending = carried(alloc, table, front, name, later, change)?;
     Ok(pending)
 }
 
@@ -95,7 +97,7 @@ fn put_in_place(
 /// All changes are made and the meters of the watched names prepared before the first change is put in place, so a failure leaves
 /// the table and all readings as they are. It is `Range` only where
 /// some formula of the scene with the other solid would move a cell out of the limits.
-pub fn set_input<M: Meter>(
+fn set_input<M: Meter>(
     alloc: Global,
     table: &mut IndexMap<Name, Node>,
     slots: &mut Slots<M>,
@@ -129,4 +131,31 @@ pub fn set_input<M: Meter>(
     let names = put_in_place(table, pending, name);
     slots.commit();
     Ok(names)
+}
+
+/// Makes the change of an input that was planned for an edit, and changes each name that reads it.
+///
+/// It is `Range` exactly where a formula would move some cell out of the limits, or `NoMemory`, and nothing is changed then.
+pub fn change_input<M: Meter>(
+    alloc: Global,
+    table: &mut IndexMap<Name, Node>,
+    slots: &mut Slots<M>,
+    order: &[Name],
+    name: &Name,
+    change: Change,
+) -> Result<Changed, Refusal>
+    requires kept { IsKept table.old.entries order.now }
+    requires stands { is_some (node_at table.old.entries name.now) ≡ true }
+    requires input { is_made (node_at table.old.entries name.now) ≡ false }
+    requires change { IsChange (Some change) (kept table.old.entries name.now) }
+    requires watched { IsWatched table.old.entries slots.old }
+    ensures kept { IsKept table.new.entries order.now }
+    ensures applies { (edit : model.Edit) → IsPlanned table.old.entries name.now edit change
+        → Applies result (scene_of table.old.entries) (scene_of table.new.entries) edit }
+    ensures watched { StaysWatched table.new.entries slots.old slots.new }
+{
+    match set_input(alloc, table, slots, order, name, change) {
+        Ok(names) => Ok(Changed { names }),
+        Err(e) => Err(Refusal::from(e)),
+    }
 }

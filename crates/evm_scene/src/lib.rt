@@ -31,5 +31,5 @@ mod slots;
 mod tests;
 mod watched;
 
-pub use edit::{AttachError, Changed, Edit, Entry, Refusal};
+pub use edit::{AttachError, BoxEdit, Changed, Edit, Entry, Refusal};
 pub use scene::Scene;

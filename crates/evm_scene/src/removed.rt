@@ -12,20 +12,20 @@ ghost use Rattle.evm_scene.specs.Applied.{Applies};
 
 use super::edit::{Changed, Refusal};
 use super::node::Node;
-use evm_formulas::operations::{Operands, operands_of};
 use evm_meter::Meter;
-use evm_script::{Formula, Name};
+use evm_script::{Formula, Name, Operands};
 use evm_watch::Slots;
 use indexmap::IndexMap;
 
 /// Whether a formula reads a name.
+#[tactic(auto, using(evm_formulas::proofs::Stated::names_read))]
 pub fn names(formula: &Formula, name: &Name) -> bool
     ensures { result ≡ is_among name.now (operands formula.now) }
 {
-    match operands_of(formula) {
+    match formula.operands() {
         Operands::Two(a, b) => *name == a || *name == b,
         Operands::One(a) => *name == a,
-        Operands::Zero => false,
+        Operands::None => false,
     }
 }
 

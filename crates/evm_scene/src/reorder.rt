@@ -7,19 +7,19 @@ ghost use Rattle.evm_scene.specs.Tables.{reads_at};
 ghost use Rattle.evm_scene.specs.Orders.{meets, Parted};
 
 use super::node::Node;
-use evm_formulas::operations::{Operands, operands_of};
 use evm_rows::NoMemory;
-use evm_script::{Formula, Name};
+use evm_script::{Formula, Name, Operands};
 use indexmap::{IndexMap, IndexSet};
 
 /// Whether a formula reads one of the names that reach.
+#[tactic(auto, using(evm_formulas::proofs::Stated::names_read))]
 pub fn reads_reach(formula: &Formula, reach: &IndexSet<Name>) -> bool
     ensures { result ≡ meets reach.now.keys (operands formula.now) }
 {
-    match operands_of(formula) {
+    match formula.operands() {
         Operands::Two(a, b) => reach.contains(&a) || reach.contains(&b),
         Operands::One(a) => reach.contains(&a),
-        Operands::Zero => false,
+        Operands::None => false,
     }
 }
 

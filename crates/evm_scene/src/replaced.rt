@@ -11,7 +11,7 @@ ghost use Rattle.evm_scene.specs.Applied.{Applies};
 ghost use Rattle.evm_scene.specs.InputEdits.{IsRefused, IsPlanned};
 
 use super::edit::{Changed, Refusal};
-use super::inputs::set_input;
+use super::inputs::change_input;
 use super::node::Node;
 use evm_formulas::changes::{Change, changed_to};
 use evm_meter::Meter;
@@ -71,8 +71,5 @@ pub fn replace<M: Meter>(
         Ok(change) => change,
         Err(cause) => return Err(cause),
     };
-    match set_input(alloc, table, slots, order, name, change) {
-        Ok(names) => Ok(Changed { names }),
-        Err(e) => Err(Refusal::from(e)),
-    }
+    change_input(alloc, table, slots, order, name, change)
 }

@@ -4,6 +4,7 @@ use super::*;
 use evm_meter::StockMeter;
 use evm_rows::Solid;
 use evm_script::{Formula, Name, Num, Nums};
+use std::alloc::Global;
 use std::test::*;
 
 /// A name.
@@ -11,67 +12,85 @@ fn name(bytes: &[u8]) -> Result<Name, Fail> {
     Ok(Name::of(bytes).ok_or("name")?)
 }
 
-/// The corners of a square.
-fn corners(low: i64, high: i64) -> Result<Nums, Fail> {
-    Ok(Nums::of(&[low, low, high, high]).ok_or("numbers")?)
+/// Makes an edit that is not refused, and answers how many names changed.
+fn edited(scene: &mut Scene<StockMeter>, alloc: Global, edit: Edit) -> Result<usize, Fail> {
+    let done = scene.apply(alloc, edit).ok().ok_or("refused")?;
+    Ok(done.names)
 }
 
-/// A number.
-fn number(value: i64) -> Result<Num, Fail> {
-    Ok(Num::of(value).ok_or("number")?)
+/// The solid of a name.
+fn solid(scene: &Scene<StockMeter>, alloc: Global, name: &Name) -> Result<Solid, Fail> {
+    Ok(scene.solid(alloc, name).ok().ok_or("solid")?)
+}
+
+/// A scene with an input `a` in the plane.
+fn with_input(alloc: Global) -> Result<Scene<StockMeter>, Fail> {
+    let meters: Vec<StockMeter> = Vec::new(alloc);
+    let mut scene = Scene::new(alloc, meters).ok().ok_or("memory")?;
+    let (name, dim) = (name(b"a")?, Num::of(2).ok_or("number")?);
+    edited(&mut scene, alloc, Edit::Input { name, dim })?;
+    Ok(scene)
+}
+
+/// The same, with `m`, the mirror image of `a`.
+fn mirrored(alloc: Global) -> Result<Scene<StockMeter>, Fail> {
+    let mut scene = with_input(alloc)?;
+    let (a, axis) = (name(b"a")?, Num::of(1).ok_or("number")?);
+    let (name, formula) = (name(b"m")?, Formula::Mirror { a, axis });
+    edited(&mut scene, alloc, Edit::Def { name, formula })?;
+    Ok(scene)
 }
 
 #[test]
 fn formulas_follow_inputs(rt: HostRuntime) -> Result<(), Fail> {
-    let meters: Vec<StockMeter> = Vec::new(rt.alloc());
-    let mut scene = Scene::new(rt.alloc(), meters).map_err(|_| "memory")?;
+    let mut scene = mirrored(rt.alloc())?;
+    let nums = Nums::of(&[0, 0, 2, 2]).ok_or("numbers")?;
+    let (how, name_a) = (BoxEdit::Add, name(b"a")?);
+    let square = Edit::Box {
+        how,
+        name: name_a,
+        nums,
+    };
+    assert_eq!(rt; edited(&mut scene, rt.alloc(), square)?, 2);
+    let image = solid(&scene, rt.alloc(), &name(b"m")?)?;
+    assert_eq!(rt; image.flat(), [-2, 0, -2, 2, 0, 0, 0, 2].as_slice());
+    Ok(())
+}
+
+#[test]
+fn inputs_get_other_solids(rt: HostRuntime) -> Result<(), Fail> {
+    let mut scene = mirrored(rt.alloc())?;
     let name_a = name(b"a")?;
-    let name_m = name(b"m")?;
-    let input = Edit::Input {
+    let cell = Solid::of_box(rt.alloc(), &[0, 0], &[1, 1])
+        .ok()
+        .ok_or("box")?;
+    let other = Edit::Replace {
         name: name_a,
-        dim: number(2)?,
+        solid: cell,
     };
-    assert_eq!(rt; scene.apply(rt.alloc(), input), Ok(Changed { names: 0 }));
-    let mirror = Edit::Def {
-        name: name_m,
-        formula: Formula::Mirror {
-            a: name_a,
-            axis: number(1)?,
-        },
-    };
-    assert_eq!(rt; scene.apply(rt.alloc(), mirror), Ok(Changed { names: 0 }));
-    let square = Edit::Add {
-        name: name_a,
-        nums: corners(0, 2)?,
-    };
-    assert_eq!(rt; scene.apply(rt.alloc(), square), Ok(Changed { names: 2 }));
-    let mirrored = scene.solid(rt.alloc(), &name_m).map_err(|_| "m")?;
-    assert_eq!(rt; mirrored.flat(), [-2, 0, -2, 2, 0, 0, 0, 2].as_slice());
-    assert_eq!(rt; scene.count(), 2);
-    assert_eq!(rt; scene.name_at(1).same(&name_m), true);
-    assert_eq!(rt;
-        scene.entry(&name_m),
-        Some(Entry {
-            dim: 2,
-            input: false
-        })
-    );
-    assert_eq!(rt; scene.formula(&name_m).is_some(), true);
-    let dropped = Edit::Drop { name: name_a };
-    assert_eq!(rt; scene.apply(rt.alloc(), dropped), Err(Refusal::Used));
-    let copy = scene.solid(rt.alloc(), &name_a).map_err(|_| "a")?;
-    assert_eq!(rt; copy.flat(), [0, 0, 0, 2, 2, 0, 2, 2].as_slice());
+    assert_eq!(rt; edited(&mut scene, rt.alloc(), other)?, 2);
+    let image = solid(&scene, rt.alloc(), &name(b"m")?)?;
+    assert_eq!(rt; image.flat(), [-1, 0, -1, 1, 0, 0, 0, 1].as_slice());
+    let copy = solid(&scene, rt.alloc(), &name_a)?;
+    assert_eq!(rt; copy.flat(), [0, 0, 0, 1, 1, 0, 1, 1].as_slice());
     let again = Edit::Replace {
         name: name_a,
         solid: copy,
     };
-    assert_eq!(rt; scene.apply(rt.alloc(), again), Ok(Changed { names: 0 }));
-    let other = Edit::Replace {
-        name: name_a,
-        solid: Solid::of_box(rt.alloc(), &[0, 0], &[1, 1]).map_err(|_| "box")?,
-    };
-    assert_eq!(rt; scene.apply(rt.alloc(), other), Ok(Changed { names: 2 }));
-    let mirrored = scene.solid(rt.alloc(), &name_m).map_err(|_| "m")?;
-    assert_eq!(rt; mirrored.flat(), [-1, 0, -1, 1, 0, 0, 0, 1].as_slice());
+    assert_eq!(rt; edited(&mut scene, rt.alloc(), again)?, 0);
+    Ok(())
+}
+
+#[test]
+fn tells_what_stands(rt: HostRuntime) -> Result<(), Fail> {
+    let mut scene = mirrored(rt.alloc())?;
+    let name_m = name(b"m")?;
+    assert_eq!(rt; scene.count(), 2);
+    assert!(rt; scene.name_at(1).same(&name_m));
+    assert!(rt; scene.formula(&name_m).is_some());
+    let (dim, input) = (2, false);
+    assert_eq!(rt; scene.entry(&name_m), Some(Entry { dim, input }));
+    let dropped = Edit::Drop { name: name(b"a")? };
+    assert_eq!(rt; scene.apply(rt.alloc(), dropped), Err(Refusal::Used));
     Ok(())
 }

@@ -18,12 +18,13 @@ use Rattle.evm_model.specs.Steps.{Turn, stays, unless_refused, edited, load_caus
 use Rattle.evm_session.specs.declared.refusals.Refusal.{Refusal}
 use Rattle.evm_session.specs.declared.refusals.Refusal.TheVariants as refusals
 use Rattle.evm_session.specs.Answers.{ShelfView}
-use Rattle.evm_session.specs.Carried.{Carries, IsRefusalOf, LeavesText}
+use Rattle.evm_session.specs.Carried.{Carries}
 use Rattle.evm_session.specs.Loads.{ReadsFigure}
 use Rattle.evm_session.specs.Refusals.{code_of}
 use Rattle.evm_session.specs.Requests.{request_of, IsTurnOf, CarriesOver}
 use Rattle.evm_session.specs.Says.{Extends}
 use Rattle.evm_session.proofs.Rows.{extends_itself}
+use Rattle.evm_session.proofs.Turns.{refusal_itself, text_itself}
 use Rattle.evm_session.proofs.Shelved.{code_of_shelf, maybe_of_shelf, quiet_first, quiet_turn, one_turn, fetched_turn, placed_told, placed_files, carried_quiet, carried_alone}
 
 -- ---- causes before the file is fetched
@@ -154,15 +155,6 @@ load_edits scene name form file bytes a h e =
     ∙ sym (past_load scene name form file (Some bytes) h ∙ ap (load_figure scene name) e)
 
 -- ---- over the shelf
-
--- a refusal, as one of the turn that is refused so
-refusal_itself : (refusal : Refusal) (scene : Scene) → IsRefusalOf refusal scene (stays scene (No (code_of refusal)))
-refusal_itself refusals.NoMemory scene = tt
-refusal_itself refusal scene = refl
-
-text_itself : (refusal : Refusal) (text : List ℕ) → LeavesText refusal text text
-text_itself refusals.NoMemory text = extends_itself text
-text_itself refusal text = refl
 
 -- a load that is refused before its file is fetched
 pub load_early : (refusal : Refusal) (scene : Scene) (name : List ℕ) (form : LoadForm) (file before : List ℕ) (shelf : ShelfView) → first_cause (load_causes scene name form) ≡ Some (code_of refusal)

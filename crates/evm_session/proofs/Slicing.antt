@@ -1,5 +1,5 @@
 -- Sections and projections, as the model states them.
-use Rattle.std.proofs.Common.{◌≡◌, ℕ, ◌≤◌, Bool, true, not, ◌&&◌, ◌-◌, List, [], ◌∷◌, Option, Some, None, ℤ, pos, neg_ℤ, ◌-ℤ◌, ◌≤ℤ◌, int_le, nat_abs, is_some, refl, ap, ◌∙◌, sym, subst, arith}
+use Rattle.std.proofs.Common.{◌≡◌, ℕ, ◌≤◌, Bool, true, ◌&&◌, ◌-◌, List, Option, Some, None, ℤ, pos, neg_ℤ, ◌-ℤ◌, ◌≤ℤ◌, int_le, nat_abs, is_some, refl, ap, ◌∙◌, sym, subst, arith}
 use Rattle.std.proofs.lemmas.Bool.{false≢true}
 use Rattle.std.proofs.lemmas.Int.{ints}
 use Rattle.evm_cells.specs.Limits.{limit, is_cell_coord}
@@ -10,13 +10,11 @@ use Rattle.evm_cells.proofs.Coords.{le_is}
 use Rattle.evm_cells.proofs.Xor.{and_first, and_second}
 use Rattle.evm_rows.specs.Rows.{Vertices}
 use Rattle.evm_model.specs.Figures.{Figure, slice_of, proj_of}
-use Rattle.evm_model.specs.Scene.{Scene, Entry, entry_of, stands, dim_of, dim_of_entry, is_axis, is_dim, IsWell}
-use Rattle.evm_model.specs.Edits.{Name, Dim, Range, first_cause, section_causes, axis_causes}
-use Rattle.evm_model.specs.Replies.{Reply}
-use Rattle.evm_model.specs.Steps.{asked, stays, unless_refused}
+use Rattle.evm_model.specs.Scene.{Scene, Entry, entry_of, stands, value, dim_of, dim_of_entry, is_dim, IsWell}
 use Rattle.evm_model.proofs.Lookups.{found_passes}
 use Rattle.evm_formulas.specs.Stated.{figure_of}
 use Rattle.evm_script.specs.Coordinates.{is_between}
+use Rattle.evm_session.specs.Named.{IsTreeOf}
 use Rattle.evm_session.proofs.Answering.{below_next}
 
 -- a name that stands has a dimension of named solids
@@ -35,8 +33,8 @@ deep_enough scene name well s =
     omega (arith, ints, low)
 
 -- so have its rows
-pub deep_rows : (scene : Scene) (name : List ℕ) (a v : Vertices) → IsWell scene → stands scene name ≡ true → a ≡ v → v.dim ≡ dim_of scene name → 2 ≤ a.dim
-deep_rows scene name a v well s same dim = subst (λ (n : ℕ). 2 ≤ n) (sym (ap (λ (b : Vertices). b.dim) same ∙ dim)) (deep_enough scene name well s)
+pub deep_rows : (a v : Vertices) → a ≡ v → 2 ≤ v.dim → 2 ≤ a.dim
+deep_rows a v same deep = subst (λ (n : ℕ). 2 ≤ n) (sym (ap (λ (b : Vertices). b.dim) same)) deep
 
 -- six at most
 pub shallow_enough : (scene : Scene) (name : List ℕ) → IsWell scene → stands scene name ≡ true → dim_of scene name ≤ 6
@@ -45,6 +43,16 @@ shallow_enough scene name well s =
     let high : pos n ≤ℤ pos 6 = le_is (pos n) (pos 6) (and_second (int_le (pos 2) (pos n)) (int_le (pos n) (pos 6)) (stood_dim scene name well s)) in
     omega (arith, ints, high)
 
+-- the tree of a name
+pub tree_found : (scene : Scene) (name : List ℕ) (v : Vertices) → IsWell scene → stands scene name ≡ true → figure_of v ≡ value scene name → v.dim ≡ dim_of scene name → IsTreeOf v scene name
+tree_found scene name v well s figure dim = record {
+  there = s;
+  figure = figure;
+  dim = dim;
+  deep = subst (λ (n : ℕ). 2 ≤ n) (sym dim) (deep_enough scene name well s);
+  shallow = subst (λ (n : ℕ). n ≤ 6) (sym dim) (shallow_enough scene name well s);
+}
+
 -- a height between the limits of cells
 pub between_heights : (n : ℕ) (x low high : ℤ) → low ≡ neg_ℤ (pos (limit n)) → high ≡ pos (limit n) -ℤ pos 1 → is_between low high x ≡ is_cell_coord n x
 unfolding is_cell_coord
@@ -52,23 +60,6 @@ between_heights n x low high l h =
     ap (λ (y : ℤ). is_between y high x) l
     ∙ ap (λ (y : ℤ). is_between (neg_ℤ (pos (limit n))) y x) h
     ∙ ap (λ (b : Bool). int_le (neg_ℤ (pos (limit n))) x && b) (below_next x (pos (limit n)))
-
--- a question about sections, where the name stands and has this dimension
-pub section_by : (scene : Scene) (name : List ℕ) (axis at : ℤ) (n : ℕ) (reply : Reply) (b c : Bool) → stands scene name ≡ true → n ≡ dim_of scene name → is_axis n axis ≡ b → is_cell_coord n at ≡ c
-    → asked (section_causes scene name axis at) scene reply ≡ unless_refused (first_cause ((not b, Dim) ∷ (not c, Range) ∷ [])) scene (stays scene reply)
-section_by scene name axis at n reply b c s d e g =
-    ap (λ (t : Bool). unless_refused (first_cause ((not t, Name) ∷ (not (is_axis (dim_of scene name) axis), Dim) ∷ (not (is_cell_coord (dim_of scene name) at), Range) ∷ [])) scene (stays scene reply)) s
-    ∙ ap (λ (m : ℕ). unless_refused (first_cause ((not (is_axis m axis), Dim) ∷ (not (is_cell_coord m at), Range) ∷ [])) scene (stays scene reply)) (sym d)
-    ∙ ap (λ (t : Bool). unless_refused (first_cause ((not t, Dim) ∷ (not (is_cell_coord n at), Range) ∷ [])) scene (stays scene reply)) e
-    ∙ ap (λ (t : Bool). unless_refused (first_cause ((not b, Dim) ∷ (not t, Range) ∷ [])) scene (stays scene reply)) g
-
--- a question about an axis, likewise
-pub axis_by : (scene : Scene) (name : List ℕ) (axis : ℤ) (n : ℕ) (reply : Reply) (b : Bool) → stands scene name ≡ true → n ≡ dim_of scene name → is_axis n axis ≡ b
-    → asked (axis_causes scene name axis) scene reply ≡ unless_refused (first_cause ((not b, Dim) ∷ [])) scene (stays scene reply)
-axis_by scene name axis n reply b s d e =
-    ap (λ (t : Bool). unless_refused (first_cause ((not t, Name) ∷ (not (is_axis (dim_of scene name) axis), Dim) ∷ [])) scene (stays scene reply)) s
-    ∙ ap (λ (m : ℕ). unless_refused (first_cause ((not (is_axis m axis), Dim) ∷ [])) scene (stays scene reply)) (sym d)
-    ∙ ap (λ (t : Bool). unless_refused (first_cause ((not t, Dim) ∷ [])) scene (stays scene reply)) e
 
 figure_with : ℕ → List (List ℤ) → Figure
 figure_with n S = record { dim = n; cells = S }

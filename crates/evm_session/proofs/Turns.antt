@@ -1,11 +1,15 @@
 -- Turns of a scene: what is refused, and what is done.
-use Rattle.std.proofs.Common.{◌≡◌, ℕ, ◌==◌, Bool, true, false, not, List, [], ◌∷◌, ◌++◌, length, None, Ok, ℤ, sym, ap, ◌∙◌}
-use Rattle.std.specs.List.{list_all}
-use Rattle.evm_model.specs.Scene.{Scene, stands, dim_of}
-use Rattle.evm_model.specs.Edits.{Name, Dim, Range, first_cause, name_causes, place_causes}
-use Rattle.evm_model.specs.Replies.{Reply, reply_text, is_no}
+use Rattle.std.proofs.Common.{◌≡◌, ℕ, Bool, true, false, not, cond, List, [], ◌∷◌, ◌++◌, Option, None, Some, Ok, Err, refl, sym, ap, subst, ◌∙◌}
+use Rattle.evm_model.specs.Scene.{Scene, stands}
+use Rattle.std.proofs.lemmas.Option.{none-some}
+use Rattle.evm_model.specs.Edits.{Code, Name, Range, first_cause, name_causes}
+use Rattle.evm_model.specs.Replies.{Reply, No, reply_text, is_no}
 use Rattle.evm_model.specs.Steps.{Turn, stays, unless_refused, asked}
-use Rattle.evm_session.specs.Carried.{Carries}
+use Rattle.evm_session.specs.declared.refusals.Refusal.{Refusal}
+use Rattle.evm_session.specs.declared.refusals.Refusal.TheVariants as refusals
+use Rattle.evm_session.specs.Carried.{Carries, IsRefusalOf, LeavesText}
+use Rattle.evm_session.specs.Refusals.{code_of}
+use Rattle.evm_session.proofs.Rows.{extends_itself}
 
 -- a reply and a scene, where no file is placed
 abbrev pub turn_with : Reply → Scene → Turn
@@ -23,11 +27,52 @@ pub asked_found : (scene : Scene) (name : List ℕ) (reply : Reply) → stands s
 asked_found scene name reply s =
     ap (λ (b : Bool). unless_refused (first_cause ((not b, Name) ∷ [])) scene (stays scene reply)) s
 
--- a question about a place, where the name stands and has this dimension
-pub place_by : (scene : Scene) (name : List ℕ) (nums : List ℤ) (in_limits : ℕ → ℤ → Bool) (n : ℕ) (reply : Reply) (b c : Bool) → stands scene name ≡ true → n ≡ dim_of scene name → (length nums == n) ≡ b → list_all (in_limits n) nums ≡ c
-    → asked (place_causes scene name nums (in_limits (dim_of scene name))) scene reply ≡ unless_refused (first_cause ((not b, Dim) ∷ (not c, Range) ∷ [])) scene (stays scene reply)
-place_by scene name nums in_limits n reply b c s d e g =
-    ap (λ (t : Bool). unless_refused (first_cause ((not t, Name) ∷ (not (length nums == dim_of scene name), Dim) ∷ (not (list_all (in_limits (dim_of scene name)) nums), Range) ∷ [])) scene (stays scene reply)) s
-    ∙ ap (λ (m : ℕ). unless_refused (first_cause ((not (length nums == m), Dim) ∷ (not (list_all (in_limits m) nums), Range) ∷ [])) scene (stays scene reply)) (sym d)
-    ∙ ap (λ (t : Bool). unless_refused (first_cause ((not t, Dim) ∷ (not (list_all (in_limits n) nums), Range) ∷ [])) scene (stays scene reply)) e
-    ∙ ap (λ (t : Bool). unless_refused (first_cause ((not b, Dim) ∷ (not t, Range) ∷ [])) scene (stays scene reply)) g
+-- ---- refused by a test
+
+-- a refusal, as one of the turn that is refused so
+pub refusal_itself : (refusal : Refusal) (scene : Scene) → IsRefusalOf refusal scene (stays scene (No (code_of refusal)))
+refusal_itself refusals.NoMemory scene = tt
+refusal_itself refusal scene = refl
+
+pub text_itself : (refusal : Refusal) (text : List ℕ) → LeavesText refusal text text
+text_itself refusals.NoMemory text = extends_itself text
+text_itself refusal text = refl
+
+-- a cause that comes first, with others behind it
+first_more : (causes more : List (Bool × Code)) (code : Code) → first_cause causes ≡ Some code → first_cause (causes ++ more) ≡ Some code
+first_more [] more code h = absurd (none-some code h)
+first_more (c ∷ cs) more code h = by c.0 c.1 (first_more cs more code) h
+  where
+    by : (b : Bool) (k : Code) → (first_cause cs ≡ Some code → first_cause (cs ++ more) ≡ Some code) → cond b (Some k) (first_cause cs) ≡ Some code → cond b (Some k) (first_cause (cs ++ more)) ≡ Some code
+    by true k rest h = h
+    by false k rest h = rest h
+
+-- a question that one of these causes refuses
+pub asked_refused : (refusal : Refusal) (scene : Scene) (causes more : List (Bool × Code)) (reply : Reply) (before : List ℕ) → first_cause causes ≡ Some (code_of refusal)
+    → Carries (Err refusal) scene scene before before (asked (causes ++ more) scene reply)
+asked_refused refusal scene causes more reply before h = (
+  subst (λ (o : Option Code). IsRefusalOf refusal scene (unless_refused o scene (stays scene reply))) (sym (first_more causes more (code_of refusal) h)) (refusal_itself refusal scene),
+  text_itself refusal before,
+  refl,
+)
+
+-- a question that none refuses
+pub asked_passed : (scene : Scene) (causes : List (Bool × Code)) (reply : Reply) → first_cause causes ≡ None → asked causes scene reply ≡ stays scene reply
+asked_passed scene causes reply h = ap (λ (o : Option Code). unless_refused o scene (stays scene reply)) h
+
+-- one more cause behind those that none refuses by
+first_last : (causes : List (Bool × Code)) (b : Bool) (code : Code) → first_cause causes ≡ None → first_cause (causes ++ (b, code) ∷ []) ≡ cond b (Some code) None
+first_last [] b code h = refl
+first_last (c ∷ cs) b code h = by c.0 c.1 (first_last cs b code) h
+  where
+    by : (d : Bool) (k : Code) → (first_cause cs ≡ None → first_cause (cs ++ (b, code) ∷ []) ≡ cond b (Some code) None) → cond d (Some k) (first_cause cs) ≡ None
+        → cond d (Some k) (first_cause (cs ++ (b, code) ∷ [])) ≡ cond b (Some code) None
+    by true k rest e = absurd (none-some k (sym e))
+    by false k rest e = rest e
+
+-- a question about one more number, which is in its limits or not
+pub asked_last : (scene : Scene) (causes : List (Bool × Code)) (within b : Bool) (reply : Reply) → first_cause causes ≡ None → within ≡ b
+    → asked (causes ++ (not within, Range) ∷ []) scene reply ≡ unless_refused (cond (not b) (Some Range) None) scene (stays scene reply)
+asked_last scene causes within b reply h e =
+    ap (λ (o : Option Code). unless_refused o scene (stays scene reply))
+    (first_last causes (not within) Range h ∙ ap (λ (w : Bool). cond (not w) (Some Range) None) e)

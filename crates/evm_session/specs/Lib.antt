@@ -8,3 +8,4 @@ pub mod Requests
 pub mod Loads
 pub mod Counted
 pub mod Reported
+pub mod Named

@@ -1,5 +1,5 @@
 -- What a report says, by the formula and the solid of a name.
-use Rattle.std.specs.Prelude.{ℕ, ℤ, List, [], ◌∷◌, get_or, Option, None, Some, codes}
+use Rattle.std.specs.Prelude.{ℕ, ℤ, List, [], get_or, Option, None, Some, codes}
 use Rattle.evm_report.specs.Report.{Facts}
 use Rattle.evm_rows.specs.Rows.{Vertices}
 use Rattle.evm_script.specs.Printed.{formula_words}
@@ -24,11 +24,6 @@ kind_by (Some formula) = get_or (formula_words formula) 0 []
 abbrev pub operands_by : Option Formula → List (List ℕ)
 operands_by None = []
 operands_by (Some formula) = operands formula
-
--- one name, or two
-abbrev pub names_with : List ℕ → Option (List ℕ) → List (List ℕ)
-names_with first None = first ∷ []
-names_with first (Some second) = first ∷ second ∷ []
 
 -- what is said of a solid under a name
 abbrev pub facts_with : List ℕ → Option Formula → Vertices → Facts

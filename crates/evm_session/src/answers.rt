@@ -17,7 +17,7 @@ use super::slots::{meter, read, unmeter};
 use evm_meter::Meter;
 use evm_outside::Shelf;
 use evm_rows::NoMemory;
-use evm_scene::{Edit, Scene};
+use evm_scene::{BoxEdit, Edit, Scene};
 use evm_script::{Command, read_line};
 use std::alloc::Global;
 
@@ -35,9 +35,18 @@ fn carry_out_alone<M: Meter>(
     match *command {
         Command::Blank => Ok(()),
         Command::Input { name, dim } => edit_name(scene, alloc, Edit::Input { name, dim }, out),
-        Command::Toggle { name, nums } => edit(scene, alloc, Edit::Toggle { name, nums }, out),
-        Command::Add { name, nums } => edit(scene, alloc, Edit::Add { name, nums }, out),
-        Command::Cut { name, nums } => edit(scene, alloc, Edit::Cut { name, nums }, out),
+        Command::Toggle { name, nums } => {
+            let how = BoxEdit::Toggle;
+            edit(scene, alloc, Edit::Box { how, name, nums }, out)
+        }
+        Command::Add { name, nums } => {
+            let how = BoxEdit::Add;
+            edit(scene, alloc, Edit::Box { how, name, nums }, out)
+        }
+        Command::Cut { name, nums } => {
+            let how = BoxEdit::Cut;
+            edit(scene, alloc, Edit::Box { how, name, nums }, out)
+        }
         Command::Def { name, formula } => edit(scene, alloc, Edit::Def { name, formula }, out),
         Command::Drop { name } => edit_name(scene, alloc, Edit::Drop { name }, out),
         Command::List => list(scene, alloc, out),

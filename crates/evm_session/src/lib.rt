@@ -33,6 +33,7 @@ mod cells;
 mod edits;
 mod files;
 mod lists;
+mod named;
 mod questions;
 mod readers;
 mod refusals;

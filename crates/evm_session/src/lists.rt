@@ -79,8 +79,6 @@ fn say_what(alloc: Global, formula: Option<&Formula>, out: &mut Vec<u8>) -> Resu
 fn say_formula(alloc: Global, formula: &Formula, out: &mut Vec<u8>) -> Result<(), NoMemory>
     ensures { Says result out.old.items out.new.items (spaced (formula_words formula.now)) }
 {
-    match write_formula(alloc, formula) {
-        Ok(text) => say(out, text.as_slice()),
-        Err(_) => Err(NoMemory),
-    }
+    let text = write_formula(alloc, formula)?;
+    say(out, text.as_slice())
 }

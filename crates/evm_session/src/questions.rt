@@ -8,6 +8,7 @@ ghost use Rattle.evm_session.specs.Questions.{filled_text, placed_text};
 ghost use Rattle.evm_script.specs.declared.command.Command.TheVariants as commands;
 
 use super::cells::is_filled;
+use super::named::tree_for;
 use super::refusals::Refusal;
 use super::replies::{say, say_number, say_parts, say_solid};
 use super::reports::text_on;
@@ -128,15 +129,8 @@ pub fn at<M: Meter>(
     ensures { Carries result scene.now scene.now out.old.items out.new.items
         (turn_of no_files scene.now (commands.At name.now nums.now)) }
 {
-    let Some(tree) = scene.kept(name) else {
-        return Err(Refusal::Name);
-    };
-    tree.facts();
-    let dim = tree.dim();
-    if nums.len() != dim {
-        return Err(Refusal::Dim);
-    }
-    let limit = limit(dim);
+    let tree = tree_for(scene, name, nums)?;
+    let limit = limit(tree.dim());
     let Some(cell) = nums.between(-limit, limit - 1) else {
         return Err(Refusal::Range);
     };
@@ -168,15 +162,8 @@ pub fn point<M: Meter>(
     ensures { Carries result scene.now scene.now out.old.items out.new.items
         (turn_of no_files scene.now (commands.Point name.now nums.now)) }
 {
-    let Some(tree) = scene.kept(name) else {
-        return Err(Refusal::Name);
-    };
-    tree.facts();
-    let dim = tree.dim();
-    if nums.len() != dim {
-        return Err(Refusal::Dim);
-    }
-    let limit = limit(dim);
+    let tree = tree_for(scene, name, nums)?;
+    let limit = limit(tree.dim());
     let Some(point) = nums.between(-limit, limit) else {
         return Err(Refusal::Range);
     };

@@ -2,14 +2,15 @@
 
 ghost use Rattle.std.specs.Prelude.{◌≡◌, ◌<◌, length, map, option_map, string_bytes, IfOk};
 ghost use Rattle.evm_report.specs.Report.{report_text};
+ghost use Rattle.evm_script.specs.Operands.{names_in};
 ghost use Rattle.evm_model.specs.Reports.{axis_end, ends_of};
-ghost use Rattle.evm_session.specs.Reported.{pick_of, kind_by, operands_by, names_with, facts_with};
+ghost use Rattle.evm_session.specs.Reported.{pick_of, kind_by, operands_by, facts_with};
 
 use evm_measure::{boundary, content};
 use evm_parts::parts;
 use evm_report::{Report, report_text};
 use evm_rows::{NoMemory, Solid};
-use evm_script::{Formula, Name};
+use evm_script::{Formula, Name, Operands};
 use itoa::Buffer;
 use std::alloc::Global;
 use std::str;
@@ -95,45 +96,30 @@ fn kind_of(formula: Option<&Formula>) -> &'static str
     }
 }
 
-/// One name, or two.
-fn names_of<'a>(
-    alloc: Global,
-    first: &'a Name,
-    second: Option<&'a Name>,
-) -> Result<Vec<&'a str>, NoMemory>
-    ensures { IfOk result (λ v. map (λ n. n.now) v.items
-        ≡ names_with first.now (option_map (λ n. n.now) second.entry)) }
+/// The operands of a formula; none where there is no formula.
+fn operands_of(formula: Option<&Formula>) -> Operands
+    ensures { names_in result ≡ operands_by (option_map (λ f. f.now) formula.entry) }
 {
-    let mut names = Vec::new(alloc);
-    names.push(text_of(first))?;
-    if let Some(second) = second {
-        names.push(text_of(second))?;
+    match formula {
+        Some(formula) => formula.operands(),
+        None => Operands::None,
     }
-    Ok(names)
 }
 
-/// The operands of a formula; none where there is no formula.
-fn operands_of<'a>(alloc: Global, formula: Option<&'a Formula>) -> Result<Vec<&'a str>, NoMemory>
-    ensures { IfOk result (λ v. map (λ n. n.now) v.items
-        ≡ operands_by (option_map (λ f. f.now) formula.entry)) }
+/// The texts of the names of operands.
+fn texts_of(alloc: Global, operands: &Operands) -> Result<Vec<&str>, NoMemory>
+    ensures { IfOk result (λ v. map (λ n. n.now) v.items ≡ names_in operands.now) }
 {
-    let Some(formula) = formula else {
-        return Ok(Vec::new(alloc));
-    };
-    match formula {
-        Formula::Box { .. } => Ok(Vec::new(alloc)),
-        Formula::Xor { a, b }
-        | Formula::Sub { a, b }
-        | Formula::And { a, b }
-        | Formula::Or { a, b } => names_of(alloc, a, Some(b)),
-        Formula::Lift { a, .. }
-        | Formula::Proj { a, .. }
-        | Formula::Slice { a, .. }
-        | Formula::Clip { a, .. }
-        | Formula::Swap { a, .. }
-        | Formula::Mirror { a, .. }
-        | Formula::Shift { a, .. } => names_of(alloc, a, None),
+    let mut texts = Vec::new(alloc);
+    match operands {
+        Operands::Two(a, b) => {
+            texts.push(text_of(a))?;
+            texts.push(text_of(b))?;
+        }
+        Operands::One(a) => texts.push(text_of(a))?,
+        Operands::None => {}
     }
+    Ok(texts)
 }
 
 /// The text of the report on a solid under a name.
@@ -152,7 +138,8 @@ pub fn text_on(
     let parts = parts(alloc, solid.rows())?;
     let low = ends_on(alloc, solid, End::Low)?;
     let high = ends_on(alloc, solid, End::High)?;
-    let operands = operands_of(alloc, formula)?;
+    let read = operands_of(formula);
+    let operands = texts_of(alloc, &read)?;
     let mut cell_digits = Buffer::new();
     let mut face_digits = Buffer::new();
     let report = Report {

@@ -1,15 +1,15 @@
 //! Sections and projections of the solid of a name, and its faces across an axis.
 
-ghost use Rattle.std.specs.Prelude.{◌≡◌, ◌-◌, ◌<◌, ◌≤◌, nat_abs, true, false, IfOk, MatchOption};
+ghost use Rattle.std.specs.Prelude.{◌≡◌, ◌-◌, ◌<◌, ◌≤◌, true, false, IfOk, MatchOption};
 ghost use Rattle.evm_cells.specs.Limits.{is_cell_coord};
 ghost use Rattle.evm_cells.specs.Sections.{slice};
 ghost use Rattle.evm_rows.specs.Rows.{cells_of};
-ghost use Rattle.evm_model.specs.Scene.{is_axis};
 ghost use Rattle.evm_model.specs.Files.{no_files};
 ghost use Rattle.evm_model.specs.Steps.{turn_of};
 ghost use Rattle.evm_session.specs.Carried.{Carries};
 ghost use Rattle.evm_script.specs.declared.command.Command.TheVariants as commands;
 
+use super::named::tree_and_axis;
 use super::refusals::Refusal;
 use super::replies::{say_cuts, say_solid};
 use evm_faces::cut_faces;
@@ -20,21 +20,6 @@ use evm_script::{Name, Num};
 use evm_shapes as shapes;
 use evm_tiles::Tiles;
 use std::alloc::Global;
-
-/// The axis that a number states, counted from 1, or `None` exactly where it is none of this dimension.
-fn axis_of(axis: &Num, dim: usize) -> Option<usize>
-    requires { dim ≤ 6 }
-    ensures { MatchOption result (is_axis dim axis.now ≡ false)
-        (λ found. (is_axis dim axis.now ≡ true) × (0 < found) × (found ≤ dim)
-        × (found ≡ nat_abs axis.now)) }
-{
-    let axis = axis.value();
-    if 1 <= axis && axis <= dim as i64 {
-        Some(axis as usize)
-    } else {
-        None
-    }
-}
 
 /// The height that a number states, or `None` exactly where it is no coordinate of a cell of this dimension.
 fn height_of(at: &Num, dim: usize) -> Option<i32>
@@ -79,16 +64,9 @@ pub fn section<M: Meter>(
     ensures { Carries result scene.now scene.now out.old.items out.new.items
         (turn_of no_files scene.now (commands.Section name.now axis.now at.now)) }
 {
-    scene.facts();
-    let Some(tree) = scene.kept(name) else {
-        return Err(Refusal::Name);
-    };
-    tree.facts();
-    let dim = tree.dim();
-    let Some(along) = axis_of(axis, dim) else {
-        return Err(Refusal::Dim);
-    };
-    let Some(at) = height_of(at, dim) else {
+    let found = tree_and_axis(scene, name, axis)?;
+    let (tree, along) = found;
+    let Some(at) = height_of(at, tree.dim()) else {
         return Err(Refusal::Range);
     };
     let section = section_of(alloc, tree, along, at)?;
@@ -107,17 +85,10 @@ pub fn project<M: Meter>(
     ensures { Carries result scene.now scene.now out.old.items out.new.items
         (turn_of no_files scene.now (commands.Project name.now axis.now)) }
 {
-    scene.facts();
-    let Some(tree) = scene.kept(name) else {
-        return Err(Refusal::Name);
-    };
-    tree.facts();
-    let dim = tree.dim();
-    let Some(axis) = axis_of(axis, dim) else {
-        return Err(Refusal::Dim);
-    };
+    let found = tree_and_axis(scene, name, axis)?;
+    let (tree, along) = found;
     let solid = tree.to_rows(alloc)?;
-    let shadow = shapes::project(alloc, solid.rows(), axis)?;
+    let shadow = shapes::project(alloc, solid.rows(), along)?;
     say_solid(out, &shadow)?;
     Ok(())
 }
@@ -133,17 +104,10 @@ pub fn faces<M: Meter>(
     ensures { Carries result scene.now scene.now out.old.items out.new.items
         (turn_of no_files scene.now (commands.Faces name.now axis.now)) }
 {
-    scene.facts();
-    let Some(tree) = scene.kept(name) else {
-        return Err(Refusal::Name);
-    };
-    tree.facts();
-    let dim = tree.dim();
-    let Some(axis) = axis_of(axis, dim) else {
-        return Err(Refusal::Dim);
-    };
+    let found = tree_and_axis(scene, name, axis)?;
+    let (tree, along) = found;
     let solid = tree.to_rows(alloc)?;
-    let cuts = cut_faces(alloc, solid.rows(), axis)?;
+    let cuts = cut_faces(alloc, solid.rows(), along)?;
     say_cuts(out, cuts.as_slice())?;
     Ok(())
 }

@@ -18,4 +18,4 @@ returns-in_default-clause-applies c =
 pub returns-in-Ok-add-clause-applies : goal.returns-in-Ok-add-clause-applies
 returns-in-Ok-add-clause-applies c =
     let fresh : is_some (node_at c.args.table.now.entries c.args.name) ≡ false = search rules in
-    input_done c.args.table.now.entries c.add.new.table.entries c.args.name c.args.dim _ _ c.requires.well fresh c.in-Some.ensures.0 c.in-Some.ensures.1 (ap figure_of c.in-Ok.ensures ∙ c.none-none.ensures.value) c.in-Ok-add.ensures.ok
+    input_done c.args.table.now.entries c.add.new.table.entries c.args.name c.args.dim _ _ c.requires.well fresh c.in-Some.ensures.0 c.in-Some.ensures.1 (ap figure_of c.in-Ok.ensures ∙ c.none.ensures.value) c.in-Ok-add.ensures.ok

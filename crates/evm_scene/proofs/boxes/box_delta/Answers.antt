@@ -2,7 +2,7 @@ use Rattle.std.proofs.Common.{ap, sym, ◌∙◌}
 use Rattle.evm_model.specs.Figures.{xor_of}
 use Rattle.evm_formulas.specs.Stated.{figure_of}
 use Rattle.evm_scene.specs.InputEdits.{figure_by}
-use Rattle.evm_scene.specs.declared.boxes.BoxEdit.{BoxEdit}
+use Rattle.evm_scene.specs.declared.edit.BoxEdit.{BoxEdit}
 use Rattle.evm_formulas.proofs.Figures.{figure_set}
 use Rattle.evm_scene.proofs.BoxChanges.{added_by, cut_by}
 use Rattle.evm_scene.proofs.boxes.box_delta.Goals as goal

@@ -1,23 +1,5 @@
-use Rattle.std.proofs.Common.{◌≡◌, Err, sym, subst, ap}
-use Rattle.evm_delta.specs.declared.shapes.DeltaError.{DeltaError}
-use Rattle.evm_scene.specs.declared.edit.Refusal.{Refusal}
-use Rattle.evm_scene.specs.Tables.{scene_of}
-use Rattle.evm_scene.specs.Applied.{Applies}
-use Rattle.evm_scene.specs.InputEdits.{edit_by}
 use Rattle.evm_scene.proofs.Views.{kept_is_value}
-use Rattle.evm_scene.proofs.Planned.{planned_done, planned_failed}
 use Rattle.evm_scene.proofs.boxes.edit_by_box.Goals as goal
 
 pub planned-requires-clause-values : goal.planned-requires-clause-values
 planned-requires-clause-values g c = kept_is_value c.args.table.now.entries c.args.order.now c.requires.kept
-
-pub returns-in-Ok-set_input-clause-applies : goal.returns-in-Ok-set_input-clause-applies
-returns-in-Ok-set_input-clause-applies g c =
-    planned_done c.args.table.now.entries c.set_input.new.table.entries c.args.name.now _ c.in-Ok.change c.in-Ok.ensures c.in-Ok-set_input.names
-    c.in-Ok-set_input.ensures.stays c.in-Ok-set_input.ensures.ok c.in-Ok-set_input.ensures.count
-
-pub returns-in-Err-set_input-clause-applies : goal.returns-in-Err-set_input-clause-applies
-returns-in-Err-set_input-clause-applies g c =
-    subst (λ (r : Refusal). Applies (Err r) (scene_of c.args.table.now.entries) (scene_of c.set_input.new.table.entries) (edit_by c.args.edit c.args.name.now c.args.nums.now)) (sym c.from.ensures)
-    (planned_failed c.args.table.now.entries c.set_input.new.table.entries c.args.name.now _ c.in-Ok.change c.in-Ok.ensures c.in-Err-set_input.e
-    (λ (k : c.in-Err-set_input.e ≡ DeltaError.Range). c.in-Err-set_input.ensures.range (ap Err k)) c.in-Err-set_input.ensures.err)

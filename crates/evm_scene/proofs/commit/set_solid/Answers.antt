@@ -6,9 +6,9 @@ use Rattle.evm_scene.proofs.commit.set_solid.Goals as goal
 pub returns-in-Some : goal.returns-in-Some
 returns-in-Some c =
     (c.get_mut.follows.holds (with_solid c.in-Some.node.now c.args.solid)).0
-    ∙ set_is_put c.args.table.now.entries c.args.name.now c.in-Some.node.now c.args.solid (sym c.in-Some.ensures.value)
+    ∙ set_is_put (λ n. with_solid n c.args.solid) c.args.table.now.entries c.args.name.now c.in-Some.node.now (sym c.in-Some.ensures.value)
 
 pub returns-in_default : goal.returns-in_default
 returns-in_default c =
     ap (λ m. m.entries) c.get_mut.follows.holds-at-none
-    ∙ sym (put_absent c.args.table.now.entries c.args.name.now c.args.solid (sym c.in_default.ensures.value))
+    ∙ sym (put_absent (λ n. with_solid n c.args.solid) c.args.table.now.entries c.args.name.now (sym c.in_default.ensures.value))

@@ -46,12 +46,12 @@ add-requires-clause-operands c =
 pub add-requires-clause-sized : goal.add-requires-clause-sized
 add-requires-clause-sized c =
     made_sized c.args.table.now.entries c.args.name c.args.formula c.requires.well c.requires.fresh c.requires.present (sym c.names.ensures ∙ c.if-names.false)
-    c.in-Some.dim c.in-Ok-tree_of.solid c.in-Some.ensures.0 c.in-Some.ensures.1 c.in-Ok.ensures.0 (ap (λ (v : Vertices). v.dim) c.in-Ok-tree_of.ensures ∙ c.in-Ok.ensures.2.1)
+    c.in-Some.dim c.in-Ok-from_solid.solid c.in-Some.ensures.0 c.in-Some.ensures.1 c.in-Ok.ensures.0 (ap (λ (v : Vertices). v.dim) c.in-Ok-from_solid.ensures ∙ c.in-Ok.ensures.2.1)
 
 pub returns-in-Ok-add-clause-applies : goal.returns-in-Ok-add-clause-applies
 returns-in-Ok-add-clause-applies c =
     new_done c.args.table.now.entries c.args.name c.args.formula c.requires.well c.requires.fresh c.requires.present (sym c.names.ensures ∙ c.if-names.false)
-    c.add.new.table.entries c.in-Some.dim c.in-Ok-tree_of.solid c.in-Some.ensures.0 c.in-Some.ensures.1 c.in-Ok.ensures.0
+    c.add.new.table.entries c.in-Some.dim c.in-Ok-from_solid.solid c.in-Some.ensures.0 c.in-Some.ensures.1 c.in-Ok.ensures.0
     (new_left c.args.table.now.entries c.args.name c.args.formula c.requires.well c.requires.fresh c.requires.present (sym c.names.ensures ∙ c.if-names.false)
     (kept_is_value c.args.table.now.entries c.args.order.now.items c.requires.kept) ∙ c.in-Ok.ensures.1)
     c.in-Ok-add.ensures.ok

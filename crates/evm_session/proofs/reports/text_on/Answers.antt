@@ -15,7 +15,7 @@ returns c =
     let filled = c.in_ok-cells.ensures ∙ ap of_cells c.rows.ensures in
     let faces = c.in_ok-faces.ensures ∙ ap of_faces c.rows-2.ensures in
     let count = c.len-2.ensures ∙ ap (λ (found : List (List (List _))). length found) (c.in_ok-parts.ensures.parts ∙ ap parts_in c.rows-3.ensures) in
-    let operands = ap (map _) c.as_slice.ensures.value ∙ c.in_ok-operands.ensures in
+    let operands = ap (map _) c.as_slice.ensures.value ∙ c.in_ok-operands.ensures ∙ c.operands_of-read.ensures in
     c.in_ok-text.ensures
     ∙ ap report_text (facts_said c.args.name.now _ _ _ _ _ _ _ _ _ _ _ v c.facts.ensures.vertices
     c.text_of.ensures c.kind_of.ensures operands c.dim.ensures c.len.ensures

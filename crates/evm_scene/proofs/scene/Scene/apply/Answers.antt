@@ -6,9 +6,10 @@ use Rattle.evm_scene.specs.declared.edit.Edit.{Edit}
 use Rattle.evm_formulas.specs.Stated.{figure_of}
 use Rattle.evm_scene.specs.Tables.{scene_of}
 use Rattle.evm_scene.specs.Applied.{Applies, edit_view}
+use Rattle.evm_scene.specs.InputEdits.{edit_by}
 use Rattle.evm_scene.specs.Watched.{slots_of, watched_scene}
 use Rattle.evm_scene.proofs.Watching.{watched_added}
-use Rattle.evm_scene.proofs.Slotted.{applies_watched}
+use Rattle.evm_scene.proofs.Slotted.{applies_watched, box_stays}
 use Rattle.evm_scene.proofs.scene.Scene.apply.Goals as goal
 
 pub input-requires-clause-well : goal.input-requires-clause-well
@@ -28,6 +29,16 @@ returns-in-Input g c =
     subst (λ (s : Scene). Applies c.input.result s end (edit_view c.args.edit)) c.self.view_is
     (subst (λ (e : Edit). Applies c.input.result (watched_scene c.self.inside.table.entries old) end (edit_view e)) (sym c.in-Input.is)
     (applies_watched c.input.result c.self.inside.table.entries c.input.new.table.entries old old (model.Input c.in-Input.name c.in-Input.dim) refl c.input.ensures.applies refl))
+
+pub returns-in-Box : goal.returns-in-Box
+returns-in-Box g c =
+    let old = c.self.inside.slots in
+    let edit = edit_by c.in-Box.how c.in-Box.name c.in-Box.nums in
+    let end = watched_scene c.edit_by_box.new.table.entries c.edit_by_box.new.slots in
+    subst (λ (s : Scene). Applies c.edit_by_box.result s end (edit_view c.args.edit)) c.self.view_is
+    (subst (λ (e : Edit). Applies c.edit_by_box.result (watched_scene c.self.inside.table.entries old) end (edit_view e)) (sym c.in-Box.is)
+    (applies_watched c.edit_by_box.result c.self.inside.table.entries c.edit_by_box.new.table.entries old c.edit_by_box.new.slots edit (box_stays c.in-Box.how c.in-Box.name c.in-Box.nums)
+    c.edit_by_box.ensures.applies c.edit_by_box.ensures.watched.same))
 
 pub returns-in-Replace : goal.returns-in-Replace
 returns-in-Replace g c =

@@ -1,7 +1,7 @@
 use Rattle.std.proofs.Common.{rules}
 use Rattle.evm_scene.specs.Changes.{IsHalted}
 use Rattle.evm_scene.proofs.Halted.{halted_from}
-use Rattle.evm_scene.proofs.defined.seeded.Goals as goal
+use Rattle.evm_scene.proofs.carry.carried.Goals as goal
 
 pub returns-in_err-carry-clause-halted : goal.returns-in_err-carry-clause-halted
 returns-in_err-carry-clause-halted c e =
