@@ -12,7 +12,7 @@ use super::named::tree_for;
 use super::refusals::Refusal;
 use super::replies::{say, say_number, say_parts, say_solid};
 use super::reports::text_on;
-use evm_measure as measure;
+use evm_cutting as measure;
 use evm_member::{Place, place};
 use evm_meter::Meter;
 use evm_parts as components;

@@ -6,7 +6,7 @@ ghost use Rattle.evm_script.specs.Operands.{names_in};
 ghost use Rattle.evm_model.specs.Reports.{axis_end, ends_of};
 ghost use Rattle.evm_session.specs.Reported.{pick_of, kind_by, operands_by, facts_with};
 
-use evm_measure::{boundary, content};
+use evm_cutting::{boundary, content};
 use evm_parts::parts;
 use evm_report::{Report, report_text};
 use evm_rows::{NoMemory, Solid};
