@@ -10,9 +10,13 @@ use evm_text::is_digit;
 /// The numbers of a header, those past 32 bits as the greatest of 32 bits, and the bytes after it.
 #[derive(Clone, Copy)]
 pub struct Fields<'a> {
+    /// The number of columns.
     pub width: u32,
+    /// The number of rows.
     pub height: u32,
+    /// The greatest value of a sample.
     pub maxval: u32,
+    /// The bytes after the header.
     pub rest: &'a [u8],
 }
 

@@ -63,7 +63,7 @@ pub fn read_pgm(
     ensures found { (S : List (List ℤ)) → pgm_cells dim threshold bytes.now ≡ Ok S
         → IsOkAnd result (λ s. cells_of s ≡ S) ⊎ IsErrOf result VoxelError.NoMemory }
 {
-    pgm::read_stack(alloc, dim, threshold, bytes)
+    solid::read_stack(alloc, dim, threshold, bytes)
 }
 
 /// The solid of a Y4M stream, or the first refusal.
@@ -95,7 +95,7 @@ pub fn read_y4m(
     ensures found { (S : List (List ℤ)) → y4m_cells dim threshold bytes.now ≡ Ok S
         → IsOkAnd result (λ s. cells_of s ≡ S) ⊎ IsErrOf result VoxelError.NoMemory }
 {
-    y4m::read_video(alloc, dim, threshold, bytes)
+    solid::read_video(alloc, dim, threshold, bytes)
 }
 
 #[cfg(test)]

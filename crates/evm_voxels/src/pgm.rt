@@ -3,16 +3,14 @@ ghost use Rattle.std.specs.Prelude.{◌≡◌, ℕ, List, ◌⊎◌, ◌+◌, �
 ghost use Rattle.evm_cells.specs.Limits.{limit};
 ghost use Rattle.evm_formats.specs.declared.voxels.VoxelError.TheVariants.{NoMemory};
 ghost use Rattle.evm_formats.specs.Images.{Picture, bytes_of, map_ok};
-ghost use Rattle.evm_voxels.specs.Outcomes.{Answers};
 ghost use Rattle.evm_voxels.specs.Shots.{fields_read, pair_of, shot_of as shown, IsStack, AreMarked};
 ghost use Rattle.evm_formats.specs.Pgm.{Shot as ShotOf, is_magic, is_shape, are_numbers, in_range, shot, image_at, after_white, images_from, pgm_cells};
 
 use crate::header::{Fields, first_byte, is_white, read_fields};
 use crate::image::{Extent, Image, Shot, Size};
 use crate::samples::mark_image;
-use crate::solid::solid_of;
 use evm_formats::VoxelError;
-use evm_rows::{Solid, limit};
+use evm_rows::limit;
 use std::alloc::Global;
 
 // Whether the first two bytes are P5.
@@ -203,19 +201,4 @@ pub fn mark(
         number += 1;
     }
     Ok(marks)
-}
-
-/// The solid of a file, or the first refusal, for which it takes no memory.
-pub fn read_stack(
-    alloc: Global,
-    dim: usize,
-    threshold: u32,
-    bytes: &[u8],
-) -> Result<Solid, VoxelError>
-    requires { (dim ≡ 2) ⊎ (dim ≡ 3) }
-    ensures { Answers dim (pgm_cells dim threshold bytes.now) result }
-{
-    let extent = measure(dim, bytes)?;
-    let marks = mark(alloc, dim, threshold, extent.depth, bytes)?;
-    solid_of(alloc, dim, &marks, extent)
 }

@@ -5,19 +5,17 @@ ghost use Rattle.evm_cells.specs.Limits.{limit};
 ghost use Rattle.evm_formats.specs.declared.voxels.VoxelError.TheVariants.{NoMemory};
 ghost use Rattle.evm_formats.specs.Images.{Picture, map_ok};
 ghost use Rattle.evm_voxels.specs.Numbers.{capped};
-ghost use Rattle.evm_voxels.specs.Outcomes.{Answers};
 ghost use Rattle.evm_voxels.specs.Shots.{AreMarked};
 ghost use Rattle.evm_formats.specs.Header.{begins};
 ghost use Rattle.evm_voxels.specs.Streams.{stream_of, frame_of, Shows};
-ghost use Rattle.evm_formats.specs.Y4m.{cut_at, value_of, values, number_of, only_number, is_quarter, sampling_of, half, chroma, sized, kind_of, sampled, headed, ends_word, is_stream, stream, after_frame, planes_of, planes_at, frame_at, frames_of, y4m_cells};
+ghost use Rattle.evm_formats.specs.Y4m.{cut_at, value_of, values, number_of, only_number, is_quarter, sampling_of, half, chroma, sized, kind_of, sampled, headed, ends_word, is_stream, stream, after_frame, planes_of, planes_at, frame_at, frames_of};
 
 use crate::header::{first_byte, number};
 use crate::image::{Extent, Image, Size};
 use crate::samples::mark_image;
-use crate::solid::solid_of;
 use crate::stream::{Found, Frame, Stream};
 use evm_formats::{Sampling, VoxelError};
-use evm_rows::{Solid, limit};
+use evm_rows::limit;
 use std::alloc::Global;
 
 // The bytes before the first `stop`, and those after it.
@@ -357,8 +355,8 @@ fn is_missing(dim: usize, number: usize) -> bool
     dim == 2 && number == 0
 }
 
-// The number of frames of a stream, or the first refusal. Takes no memory.
-fn count_frames(dim: usize, of: Stream<'_>) -> Result<usize, VoxelError>
+/// The number of frames of a stream, or the first refusal. Takes no memory.
+pub fn count_frames(dim: usize, of: Stream<'_>) -> Result<usize, VoxelError>
     requires dim { (dim ≡ 2) ⊎ (dim ≡ 3) }
     requires width { of.size.width ≤ limit dim }
     requires height { of.size.height ≤ limit dim }
@@ -384,10 +382,10 @@ fn count_frames(dim: usize, of: Stream<'_>) -> Result<usize, VoxelError>
     Ok(number)
 }
 
-// The marks of the frames of a stream, whose samples it reads once each; `depth` is their number. Memory for them is taken
-// once.
+/// The marks of the frames of a stream, whose samples it reads once each; `depth` is their number. Memory for them is taken
+/// once. It fails for want of memory, or as `count_frames` does.
 #[tactic(auto, unfolding(evm_cells::specs::Limits::limit))]
-fn mark_frames(
+pub fn mark_frames(
     alloc: Global,
     dim: usize,
     threshold: u32,
@@ -416,27 +414,4 @@ fn mark_frames(
         number += 1;
     }
     Ok(marks)
-}
-
-/// The solid of a stream, or the first refusal, for which it takes no memory.
-pub fn read_video(
-    alloc: Global,
-    dim: usize,
-    threshold: u32,
-    bytes: &[u8],
-) -> Result<Solid, VoxelError>
-    requires { (dim ≡ 2) ⊎ (dim ≡ 3) }
-    ensures { Answers dim (y4m_cells dim threshold bytes.now) result }
-{
-    let stream = read_stream(dim, bytes)?;
-    let depth = count_frames(dim, stream)?;
-    if depth == 0 {
-        return Ok(Solid::empty(alloc, dim));
-    }
-    let marks = mark_frames(alloc, dim, threshold, depth, stream)?;
-    let extent = Extent {
-        size: stream.size,
-        depth,
-    };
-    solid_of(alloc, dim, &marks, extent)
 }

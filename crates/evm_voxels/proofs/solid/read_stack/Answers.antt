@@ -1,6 +1,6 @@
 use Rattle.evm_formats.specs.Pgm.{pgm_cells}
 use Rattle.evm_voxels.proofs.Outcome.{answers_refusal, stack_memory, stack_marked, stack_cells, stack_some, answers_solid}
-use Rattle.evm_voxels.proofs.pgm.read_stack.Goals as goal
+use Rattle.evm_voxels.proofs.solid.read_stack.Goals as goal
 
 pub returns-in_err-extent : goal.returns-in_err-extent
 returns-in_err-extent c =

@@ -3,7 +3,7 @@ use Rattle.evm_formats.specs.Images.{Picture}
 use Rattle.evm_voxels.specs.Streams.{stream_of}
 use Rattle.evm_formats.specs.Y4m.{y4m_cells}
 use Rattle.evm_voxels.proofs.Outcome.{answers_refusal, stream_refused, frames_refused, frames_memory, frames_marked, frames_cells, answers_empty, answers_solid}
-use Rattle.evm_voxels.proofs.y4m.read_video.Goals as goal
+use Rattle.evm_voxels.proofs.solid.read_video.Goals as goal
 
 pub returns-in_err-stream : goal.returns-in_err-stream
 returns-in_err-stream c =
