@@ -62,7 +62,7 @@ fn cut(alloc: Global, dim: usize, plane: Plane, rows: &[BoxRow]) -> Result<Optio
     }
 }
 
-/// What boxes have on a side of a plane.
+/// What boxes have on a side of a plane. The list begins with room for five of eight boxes, and grows by doubling.
 fn side_of(
     alloc: Global,
     dim: usize,
@@ -76,7 +76,7 @@ fn side_of(
     ensures { IfOk result
         (λ kept. IsKept dim (is_on side plane.axis plane.at) rows.now kept.items) }
 {
-    let mut kept = Vec::new(alloc);
+    let mut kept = Vec::with_capacity(alloc, rows.len() / 8 * 5)?;
     for row in rows {
         keep(part_of(dim, row, plane, side), &mut kept)?;
     }

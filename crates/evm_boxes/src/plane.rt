@@ -4,10 +4,10 @@ ghost use Rattle.std.specs.Prelude.{◌<◌, ◌≤◌, IfOk, IfSome};
 
 use super::BoxRow;
 use evm_rows::NoMemory;
-use std::alloc::Global;
+use std::alloc::{AllocError, Global};
 
-/// About how many boxes are looked at for a plane.
-const SAMPLE: usize = 256;
+/// How many boxes are looked at for a plane, at most (measured).
+const SAMPLE: usize = 64;
 
 /// A plane across an axis.
 #[derive(Clone, Copy)]
@@ -18,9 +18,10 @@ pub(crate) struct Plane {
     pub at: i32,
 }
 
-/// The plane, among one for each axis, of which the side with more boxes has the fewest, if that are fewer than all.
+/// The plane, among one for each axis, of which the side with more boxes has the fewest, if that are fewer than all. It is
+/// found from some of the boxes alone, where they are many.
 ///
-/// Any plane is right; this one keeps the work small.
+/// Any plane is right; this one keeps the work small. It takes memory for those boxes and for their ends on an axis.
 pub(crate) fn plane_of(
     alloc: Global,
     dim: usize,
@@ -29,20 +30,32 @@ pub(crate) fn plane_of(
     requires high { dim ≤ 6 }
     ensures { IfOk result (λ found. IfSome found (λ plane. plane.axis < dim)) }
 {
+    let sample = sample_of(alloc, rows)?;
+    let some = sample.as_slice();
     let mut best = None;
-    let mut least = rows.len();
+    let mut least = some.len();
     for axis in 0..dim {
-        let Some(at) = median(alloc, axis, rows)? else {
+        let Some(at) = median(alloc, axis, some)? else {
             continue;
         };
         let plane = Plane { axis, at };
-        let most = larger_side(plane, rows);
+        let most = larger_side(plane, some);
         if most < least {
             least = most;
             best = Some(plane);
         }
     }
     Ok(best)
+}
+
+/// Some of the boxes, taken at even steps.
+fn sample_of(alloc: Global, rows: &[BoxRow]) -> Result<Vec<BoxRow>, AllocError> {
+    let step = rows.len() / SAMPLE + 1;
+    let mut sample = Vec::with_capacity(alloc, SAMPLE)?;
+    for row in rows.iter().step_by(step) {
+        sample.push(*row)?;
+    }
+    Ok(sample)
 }
 
 /// How many boxes come to that side of a plane that has more.
@@ -65,23 +78,22 @@ fn median(alloc: Global, axis: usize, rows: &[BoxRow]) -> Result<Option<i32>, No
     requires axis { axis < 6 }
 {
     let mut ends = inner_ends(alloc, axis, rows)?;
-    ends.sort_unstable();
     let middle = ends.len() / 2;
+    if middle < ends.len() {
+        ends.select_nth_unstable(middle);
+    }
     Ok(ends.as_slice().get(middle).copied())
 }
 
-/// Some ends of boxes on an axis, neither the least nor the greatest.
+/// The ends of boxes on an axis, but neither the least nor the greatest.
 fn inner_ends(alloc: Global, axis: usize, rows: &[BoxRow]) -> Result<Vec<i32>, NoMemory>
     requires axis { axis < 6 }
 {
     let (first, last) = hull(axis, rows);
-    let step = rows.len() / SAMPLE + 1;
-    let mut ends = Vec::new(alloc);
-    for (place, row) in rows.iter().enumerate() {
-        if place % step == 0 {
-            add_between(first, row.lo[axis], last, &mut ends)?;
-            add_between(first, row.hi[axis], last, &mut ends)?;
-        }
+    let mut ends = Vec::with_capacity(alloc, rows.len().saturating_mul(2))?;
+    for row in rows {
+        add_between(first, row.lo[axis], last, &mut ends)?;
+        add_between(first, row.hi[axis], last, &mut ends)?;
     }
     Ok(ends)
 }

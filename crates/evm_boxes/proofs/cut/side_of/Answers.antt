@@ -5,7 +5,7 @@ use Rattle.evm_boxes.proofs.Cuts.{kept_start, kept_more, kept_all}
 use Rattle.evm_boxes.proofs.cut.side_of.Goals as goal
 
 pub loop-row-init : goal.loop-row-init
-loop-row-init c = kept_start c.args.dim (is_on c.args.side c.args.plane.axis c.args.plane.at) c.new-kept.result.items c.new-kept.ensures.items
+loop-row-init c = kept_start c.args.dim (is_on c.args.side c.args.plane.axis c.args.plane.at) c.in_ok-kept.kept.items c.in_ok-kept.ensures.items
 
 pub loop-row-preserved : goal.loop-row-preserved
 loop-row-preserved c =
