@@ -7,7 +7,7 @@ ghost use Rattle.evm_boxes.specs.BoxRows.{IsBoxRow};
 ghost use Rattle.evm_boxes.specs.Cuts.{is_on, IsKept, AreSides};
 
 use super::BoxRow;
-use super::plane::{Plane, plane_of};
+use super::plane::{Plane, SAMPLE, plane_of};
 use evm_rows::NoMemory;
 use std::alloc::Global;
 
@@ -38,7 +38,27 @@ pub(crate) fn divide(alloc: Global, dim: usize, rows: &[BoxRow]) -> Result<Optio
     ensures { IfOk result (λ found. IfSome found
         (λ sides. AreSides dim rows.now sides.low.items sides.high.items)) }
 {
-    match plane_of(alloc, dim, rows)? {
+    let sides = divided(alloc, dim, rows, SAMPLE)?;
+    if sides.is_some() || rows.len() <= SAMPLE {
+        return Ok(sides);
+    }
+    divided(alloc, dim, rows, rows.len())
+}
+
+/// The same, by a plane that is found from about `most` of the boxes.
+fn divided(
+    alloc: Global,
+    dim: usize,
+    rows: &[BoxRow],
+    most: usize,
+) -> Result<Option<Sides>, NoMemory>
+    requires low { 0 < dim }
+    requires high { dim ≤ 6 }
+    requires boxes { All (IsBoxRow dim) rows.now }
+    ensures { IfOk result (λ found. IfSome found
+        (λ sides. AreSides dim rows.now sides.low.items sides.high.items)) }
+{
+    match plane_of(alloc, dim, rows, most)? {
         Some(plane) => cut(alloc, dim, plane, rows),
         None => Ok(None),
     }

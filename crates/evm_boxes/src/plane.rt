@@ -6,8 +6,8 @@ use super::BoxRow;
 use evm_rows::NoMemory;
 use std::alloc::{AllocError, Global};
 
-/// How many boxes are looked at for a plane, at most (measured).
-const SAMPLE: usize = 64;
+/// About how many boxes are looked at first for a plane (measured).
+pub(crate) const SAMPLE: usize = 128;
 
 /// A plane across an axis.
 #[derive(Clone, Copy)]
@@ -19,18 +19,19 @@ pub(crate) struct Plane {
 }
 
 /// The plane, among one for each axis, of which the side with more boxes has the fewest, if that are fewer than all. It is
-/// found from some of the boxes alone, where they are many.
+/// found from about `most` of the boxes alone, where they are more.
 ///
 /// Any plane is right; this one keeps the work small. It takes memory for those boxes and for their ends on an axis.
 pub(crate) fn plane_of(
     alloc: Global,
     dim: usize,
     rows: &[BoxRow],
+    most: usize,
 ) -> Result<Option<Plane>, NoMemory>
     requires high { dim ≤ 6 }
     ensures { IfOk result (λ found. IfSome found (λ plane. plane.axis < dim)) }
 {
-    let sample = sample_of(alloc, rows)?;
+    let sample = sample_of(alloc, rows, most)?;
     let some = sample.as_slice();
     let mut best = None;
     let mut least = some.len();
@@ -48,10 +49,10 @@ pub(crate) fn plane_of(
     Ok(best)
 }
 
-/// Some of the boxes, taken at even steps.
-fn sample_of(alloc: Global, rows: &[BoxRow]) -> Result<Vec<BoxRow>, AllocError> {
-    let step = rows.len() / SAMPLE + 1;
-    let mut sample = Vec::with_capacity(alloc, SAMPLE)?;
+/// About `most` of the boxes, taken at even steps; all, where they are no more.
+fn sample_of(alloc: Global, rows: &[BoxRow], most: usize) -> Result<Vec<BoxRow>, AllocError> {
+    let step = (rows.len().saturating_sub(1) / most.max(1)).saturating_add(1);
+    let mut sample = Vec::with_capacity(alloc, rows.len().min(most))?;
     for row in rows.iter().step_by(step) {
         sample.push(*row)?;
     }
