@@ -4,3 +4,6 @@ pub mod Combined
 pub mod FaceCounts
 pub mod SeamRows
 pub mod Measured
+pub mod Tables
+pub mod HullLaws
+pub mod Swept

@@ -2,3 +2,5 @@ pub mod Cuts
 pub mod Seams
 pub mod Splits
 pub mod Booleans
+pub mod Changes
+pub mod Hulls

@@ -8,6 +8,7 @@ ghost use Rattle.evm_cutting.specs.Splits.{AreSplit};
 use crate::dense::{is_dense, shows_dense};
 use crate::halves::{Split, cut_at};
 use crate::middles::inner_plane;
+use crate::sweeps::sweep;
 use evm_boolean::Op2;
 use evm_rows::{NoMemory, Rows, Solid, xor};
 use std::alloc::Global;
@@ -20,8 +21,10 @@ fn few_rows(dim: usize) -> usize {
     match dim {
         0 | 1 => usize::MAX,
         2 => 65_536,
-        5 => 1024,
-        _ => 512,
+        3 => 512,
+        4 => 2048,
+        5 => 8192,
+        _ => 16_384,
     }
 }
 
@@ -30,8 +33,8 @@ fn few_rows(dim: usize) -> usize {
 ///
 /// Where the operands have many rows, a plane cuts both, the parts on each side of it are combined by themselves, and the two answers,
 /// which share no cell, are put together by one exclusive or. A plane is taken if it leaves to each side at most seven of eight rows,
-/// and all four parts have at most half as many rows again as the operands. Few rows, and rows of which the sections change fast, are
-/// combined by the recursion over sections.
+/// and all four parts have at most half as many rows again as the operands. Few rows, and rows that no plane divides so, are combined by
+/// a walk over couplets that looks only near each; few heights with many rows, as in scans, by the recursion over sections.
 ///
 /// It takes memory for the parts of operands that wait, commonly about two times the operands, for a finished answer of each side that
 /// waits for the other, and for what [`evm_boolean::combine`] takes. The one error is want of memory.
@@ -43,11 +46,10 @@ pub fn combine(alloc: Global, op: Op2, a: Rows<'_>, b: Rows<'_>) -> Result<Solid
     ensures cells { IfOk result
         (λ s. HasCombined op (vertices_of a.entry) (vertices_of b.entry) s) }
 {
-    let few = if is_dense(a, b) {
-        usize::MAX
-    } else {
-        few_rows(a.dim())
-    };
+    if is_dense(a, b) {
+        return evm_boolean::combine(alloc, op, a, b);
+    }
+    let few = few_rows(a.dim());
     let solid = combine_parts(alloc, op, a, b, few, 0, DEEP)?;
     Ok(solid)
 }
@@ -72,11 +74,13 @@ pub(crate) fn combine_parts(
 {
     let count = a.len().saturating_add(b.len());
     if fuel == 0 || a.len() == 0 || b.len() == 0 || count <= few {
-        return evm_boolean::combine(alloc, op, a, b);
+        return sweep(alloc, op, a, b);
     }
     let cuts = divided(alloc, a, b, first)?;
     match cuts {
-        None => evm_boolean::combine(alloc, op, a, b),
+        // Whole operands in space that no plane serves are mostly scans.
+        None if first == 0 && a.dim() <= 3 => evm_boolean::combine(alloc, op, a, b),
+        None => sweep(alloc, op, a, b),
         Some(pair) => {
             let next = pair.left.axis + 1;
             let low = combine_parts(

@@ -7,14 +7,17 @@
 mod booleans;
 mod dense;
 mod halves;
+mod hulls;
 mod measures;
 mod middles;
 mod seams;
 mod sides;
+mod sweeps;
 #[cfg(test)]
 mod tests;
 
 pub use booleans::combine;
 pub use halves::{Split, cut_at, halved};
+pub use hulls::{Ends, hull};
 pub use measures::{boundary, content};
 pub use sides::{over, under};

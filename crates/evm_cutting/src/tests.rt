@@ -1,6 +1,7 @@
 ghost use Rattle.std.specs.Prelude.{◌≡◌};
 
 use crate::booleans::combine_parts;
+use crate::sweeps::sweep;
 use crate::{combine, cut_at};
 use evm_boolean::Op2;
 use evm_rows::Solid;
@@ -26,6 +27,18 @@ fn agrees_on_boxes(alloc: Global, op: Op2) -> Option<bool> {
     Some(planes && spaces)
 }
 
+// Whether the walk over couplets has the Boolean of two unions of boxes that one recursion has.
+fn walk_agrees(alloc: Global, op: Op2) -> Option<bool> {
+    let a = Solid::of_box(alloc, &[0, 0, 0, 0], &[4, 4, 2, 4]).ok()?;
+    let b = Solid::of_box(alloc, &[2, 1, -1, 3], &[6, 3, 3, 5]).ok()?;
+    let c = Solid::of_box(alloc, &[2, 0, 1, 1], &[3, 9, 2, 4]).ok()?;
+    let left = evm_boolean::combine(alloc, Op2::Or, a.rows(), b.rows()).ok()?;
+    let right = evm_boolean::combine(alloc, Op2::Xor, b.rows(), c.rows()).ok()?;
+    let wanted = evm_boolean::combine(alloc, op, left.rows(), right.rows()).ok()?;
+    let made = sweep(alloc, op, left.rows(), right.rows()).ok()?;
+    Some(made.same(&wanted))
+}
+
 // Whether what two rectangles share, and the two sides of a plane across the second axis of a square, have the right numbers.
 #[tactic(auto, unfolding(evm_cells::specs::Limits::limit))]
 fn has_right_numbers(alloc: Global) -> Option<(bool, bool)> {
@@ -45,6 +58,7 @@ fn has_right_numbers(alloc: Global) -> Option<(bool, bool)> {
 fn combines_boxes_by_parts(rt: HostRuntime) {
     for op in [Op2::Or, Op2::And, Op2::Sub, Op2::Xor] {
         assert_eq!(rt; agrees_on_boxes(rt.alloc(), op), Some(true), "{op:?}");
+        assert_eq!(rt; walk_agrees(rt.alloc(), op), Some(true), "{op:?}");
     }
     assert_eq!(rt; has_right_numbers(rt.alloc()), Some((true, true)));
 }

@@ -18,8 +18,9 @@ use Rattle.evm_cells.proofs.Slices.{coord, each-with_at, all-coord, cell_of_with
 use Rattle.evm_cells.proofs.Lifts.{some_passing}
 use Rattle.evm_rows.specs.Rows.{Vertices, cells_of}
 use Rattle.evm_cutting.proofs.Planes.{long, each_flip}
-use Rattle.evm_delta.specs.Hulls.{IsLow, IsHigh, IsAround, AgreesOver}
-use Rattle.evm_delta.proofs.HullLaws.{coord-take, is_inside}
+use Rattle.evm_cutting.specs.Hulls.{IsLow, IsHigh, IsAround}
+use Rattle.evm_delta.specs.Hulls.{AgreesOver}
+use Rattle.evm_cutting.proofs.HullLaws.{coord-take, is_inside}
 use Rattle.evm_delta.proofs.ShadowLaws.{has-proj}
 
 -- the opened box is one round the change as well

@@ -13,8 +13,9 @@ use Rattle.evm_rows.specs.Rows.{Vertices, xor_rows, combined_rows, cells_of}
 use Rattle.evm_boolean.specs.declared.boolean.Op2.{Op2}
 use Rattle.evm_boolean.specs.declared.boolean.Op2.TheVariants.{Or, And, Sub, Xor}
 use Rattle.evm_boolean.specs.Tower.{fills, and_vertices, sub_vertices}
-use Rattle.evm_delta.specs.Changes.{op_cells, value_before, value_after, change_vertices, follows_left, follows_right, left_change, right_change}
-use Rattle.evm_delta.proofs.Tables.{change_at, fills-nothing, xor_twice}
+use Rattle.evm_cutting.specs.Changes.{follows_left, follows_right}
+use Rattle.evm_delta.specs.Changes.{op_cells, value_before, value_after, change_vertices, left_change, right_change}
+use Rattle.evm_cutting.proofs.Tables.{change_at, fills-nothing, xor_twice}
 
 -- the parts of a change, on cells
 abbrev pub left_cells : Op2 → ℕ → List (List ℤ) → List (List ℤ) → List (List ℤ)

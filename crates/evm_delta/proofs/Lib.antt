@@ -1,4 +1,3 @@
-pub mod Tables
 pub mod Deltas
 pub mod Corners
 pub mod ShapeLaws
@@ -6,6 +5,5 @@ pub mod Shaped
 pub mod ShadowLaws
 pub mod Shadows
 pub mod Carried
-pub mod HullLaws
 pub mod Near
 pub mod Columns

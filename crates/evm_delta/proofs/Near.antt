@@ -16,8 +16,10 @@ use Rattle.evm_cells.proofs.Combine.{cell_set-xor}
 use Rattle.evm_rows.specs.Rows.{Vertices, cells_of, xor_rows}
 use Rattle.evm_boolean.specs.declared.boolean.Op2.{Op2}
 use Rattle.evm_tiles.proofs.Showing.{same_cells_none}
-use Rattle.evm_delta.specs.Changes.{follows_left, follows_right, left_change, right_change, change_vertices, after_change}
-use Rattle.evm_delta.specs.Hulls.{AgreesOn}
+use Rattle.evm_cutting.proofs.HullLaws.{of_dim}
+use Rattle.evm_cutting.specs.Changes.{follows_left, follows_right}
+use Rattle.evm_delta.specs.Changes.{left_change, right_change, change_vertices, after_change}
+use Rattle.evm_cutting.specs.Hulls.{AgreesOn}
 use Rattle.evm_delta.proofs.Deltas.{has-none, xor_rows_is, both_is}
 
 -- ---- on cells
@@ -48,9 +50,6 @@ none_left w n S s =
     ∙ cells-empty n
 
 -- ---- on vertices
-
-of_dim : (n : ℕ) (v : Vertices) (c : List ℤ) → v.dim ≡ n → has (cells_of v) c ≡ has (cells n v.rows) c
-of_dim n v c e = ap (λ (m : ℕ). has (cells m v.rows) c) e
 
 agrees_in : (n : ℕ) (d t s : Vertices) (c : List ℤ) → d.dim ≡ n → t.dim ≡ n → s.dim ≡ n → AgreesOn d t s → has (cells n d.rows) c ≡ true → has (cells n s.rows) c ≡ has (cells n t.rows) c
 agrees_in n d t s c ed et es h m = sym (of_dim n s c es) ∙ h c (of_dim n d c ed ∙ m) ∙ of_dim n t c et
@@ -107,14 +106,6 @@ agrees_after d b db s x es ed h xd xc c m =
     ∙ sym (ap (λ T. has (cells n T) c) (xor_rows_is n b.rows db.rows)
     ∙ ap (λ T. has T c) (cells-evm n (xor_cells n B E) (cell_set-xor n B E))
     ∙ has-xor_cells n B E c (cell_set-cells n b.rows) (cell_set-cells n db.rows))
-
--- a part of a solid, cut out by a box that holds the cells of d
-pub part_agrees : (n : ℕ) (lo hi : List ℤ) (d t s : Vertices) → d.dim ≡ n → t.dim ≡ n → cells_of s ≡ clip n lo hi (cells n t.rows)
-    → ((c : List ℤ) → has (cells n d.rows) c ≡ true → (is_cell n c && (each int_le lo c && each int_lt c hi)) ≡ true) → AgreesOn d t s
-part_agrees n lo hi d t s ed et e inside c m =
-    ap (λ S. has S c) e ∙ has-clip_of n lo hi (cells n t.rows) c (cell_set-cells n t.rows)
-    ∙ ap (λ w. has (cells n t.rows) c && w) (inside c (sym (of_dim n d c ed) ∙ m))
-    ∙ and-true (has (cells n t.rows) c) ∙ sym (of_dim n t c et)
 
 -- ---- the two parts of a change, and the change
 

@@ -1,12 +1,12 @@
 -- The change of a Boolean where its operands change.
 --     A change is the exclusive or of the cells before and after: an operand A that changes by DA becomes A xor DA.
-use Rattle.std.specs.Prelude.{◌≡◌, ℕ, Bool, true, not, ◌&&◌, ℤ, List}
+use Rattle.std.specs.Prelude.{◌≡◌, ℕ, ◌&&◌, ℤ, List}
 use Rattle.evm_cells.specs.Booleans.{combine, xor_cells}
 use Rattle.evm_cells.specs.Vertices.{evm, cells}
 use Rattle.evm_rows.specs.Rows.{Vertices, cells_of, xor_rows}
 use Rattle.evm_boolean.specs.declared.boolean.Op2.{Op2}
-use Rattle.evm_boolean.specs.declared.boolean.Op2.TheVariants.{Or, And, Sub, Xor}
 use Rattle.evm_boolean.specs.Tower.{fills}
+use Rattle.evm_cutting.specs.Changes.{follows_left, follows_right}
 
 -- a Boolean of two cell sets of dimension n
 unfoldable pub op_cells : Op2 → ℕ → List (List ℤ) → List (List ℤ) → List (List ℤ)
@@ -27,20 +27,6 @@ after_change b db = record { dim = b.dim; rows = xor_rows b.dim b.rows db.rows }
 -- the vertices of the cells of just one of the two values
 unfoldable pub change_vertices : Op2 → Vertices → Vertices → Vertices → Vertices → Vertices
 change_vertices op a da b db = record { dim = a.dim; rows = evm a.dim (xor_cells a.dim (value_before op a b) (value_after op a da b db)) }
-
--- whether the value changes with the left operand, by whether the right one fills the place
-abbrev pub follows_left : Op2 → Bool → Bool
-follows_left Or right = not right
-follows_left And right = right
-follows_left Sub right = not right
-follows_left Xor right = true
-
--- whether it changes with the right operand, by whether the left one fills the place
-abbrev pub follows_right : Op2 → Bool → Bool
-follows_right Or left = not left
-follows_right And left = left
-follows_right Sub left = left
-follows_right Xor left = true
 
 -- where a change of the left operand changes the value
 unfoldable pub left_change : Op2 → Vertices → Vertices → Vertices

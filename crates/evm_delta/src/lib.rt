@@ -16,6 +16,5 @@ mod shapes;
 mod tests;
 
 pub use boolean_changes::delta2;
-pub use hulls::{Ends, hull};
 pub use shape_changes::delta1;
 pub use shapes::{DeltaError, Op1, shape};

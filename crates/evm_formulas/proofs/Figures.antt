@@ -15,7 +15,7 @@ use Rattle.evm_boolean.specs.declared.boolean.Op2.TheVariants.{Or, And, Sub, Xor
 use Rattle.evm_boolean.specs.Tower.{fills}
 use Rattle.evm_delta.specs.Changes.{op_cells, value_before, value_after, change_vertices}
 use Rattle.evm_delta.proofs.Deltas.{carries_over}
-use Rattle.evm_delta.proofs.Tables.{xor_none}
+use Rattle.evm_cutting.proofs.Tables.{xor_none}
 use Rattle.evm_model.specs.Figures.{Figure, nothing, or_of, and_of, sub_of, xor_of, same_figure}
 use Rattle.evm_model.proofs.FigureLaws.{same_equal}
 use Rattle.evm_formulas.specs.declared.changes.Change.{Change}

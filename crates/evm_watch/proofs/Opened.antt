@@ -14,8 +14,8 @@ use Rattle.evm_cells.proofs.Universe.{point_from, cell_parts}
 use Rattle.evm_cells.proofs.Slices.{coord, all-coord}
 use Rattle.evm_rows.specs.Rows.{Vertices}
 use Rattle.evm_cutting.proofs.Planes.{long}
-use Rattle.evm_delta.specs.Hulls.{IsAround}
-use Rattle.evm_delta.proofs.HullLaws.{each_at, all_at, coord-take, is_hull, is_inside}
+use Rattle.evm_cutting.specs.Hulls.{IsAround}
+use Rattle.evm_cutting.proofs.HullLaws.{each_at, all_at, coord-take, is_hull, is_inside}
 use Rattle.evm_watch.specs.Parts.{IsLower, IsHigher, HoldsNear}
 
 -- the box from a to b, opened on the first k axes

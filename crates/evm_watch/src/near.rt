@@ -7,7 +7,7 @@ ghost use Rattle.evm_rows.specs.View.{vertices_of};
 ghost use Rattle.evm_watch.specs.Parts.{IsLower, IsHigher, IsRound, AreParts};
 
 use evm_boolean::and;
-use evm_delta::{Ends, hull};
+use evm_cutting::{Ends, hull};
 use evm_rows::{DIM_MAX, NoMemory, Rows, Solid, limit, xor};
 use evm_tiles::Tiles;
 use std::alloc::Global;

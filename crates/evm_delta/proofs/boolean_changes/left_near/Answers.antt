@@ -2,7 +2,7 @@ use Rattle.std.proofs.Common.{sym, ap, ◌∙◌, subst}
 use Rattle.evm_rows.specs.Rows.{Vertices}
 use Rattle.evm_rows.specs.View.{vertices_of}
 use Rattle.evm_delta.specs.Changes.{left_change, after_change}
-use Rattle.evm_delta.specs.Hulls.{AgreesOn}
+use Rattle.evm_cutting.specs.Hulls.{AgreesOn}
 use Rattle.evm_delta.proofs.Deltas.{no_rows}
 use Rattle.evm_delta.proofs.Near.{no_left, left_near_is, left_near_stays}
 use Rattle.evm_delta.proofs.boolean_changes.left_near.Goals as goal

@@ -4,8 +4,7 @@ use Rattle.evm_cells.specs.Shapes.{clip}
 use Rattle.evm_cells.specs.Vertices.{cells}
 use Rattle.evm_rows.specs.Rows.{Vertices, cells_of}
 use Rattle.evm_rows.specs.View.{vertices_of}
-use Rattle.evm_delta.proofs.HullLaws.{is_hull, is_inside}
-use Rattle.evm_delta.proofs.Near.{part_agrees}
+use Rattle.evm_cutting.proofs.HullLaws.{is_hull, hull_agrees}
 use Rattle.evm_delta.proofs.hulls.near.Goals as goal
 
 pub window-requires : goal.window-requires
@@ -33,8 +32,7 @@ returns-clause-agrees c =
     let narrow = d.narrow in
     let low = c.hull-ends.ensures.low in
     let high = c.hull-ends.ensures.high in
-    part_agrees n (take n lo) (take n hi) v t c.in_ok-part.part refl (sym c.requires.same_dim)
+    hull_agrees n lo hi v t c.in_ok-part.part refl (sym c.requires.same_dim) (omega (arith, narrow, low)) (omega (arith, narrow, high)) d.vertices c.hull-ends.ensures.around
     (c.in_ok-part.ensures.cells
     ∙ ap (λ (m : ℕ). clip t.dim (take m lo) (take m hi) (cells_of t)) c.dim-dim.ensures
     ∙ ap (λ (m : ℕ). clip m (take n lo) (take n hi) (cells m t.rows)) (sym c.requires.same_dim))
-    (λ p m. is_inside n lo hi v p refl (omega (arith, narrow, low)) (omega (arith, narrow, high)) d.vertices c.hull-ends.ensures.around m)

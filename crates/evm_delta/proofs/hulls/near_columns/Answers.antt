@@ -7,7 +7,7 @@ use Rattle.evm_cells.specs.Vertices.{cells}
 use Rattle.evm_rows.specs.Rows.{Vertices, cells_of}
 use Rattle.evm_rows.specs.View.{vertices_of}
 use Rattle.evm_cutting.proofs.Planes.{ends_of}
-use Rattle.evm_delta.proofs.HullLaws.{is_hull}
+use Rattle.evm_cutting.proofs.HullLaws.{is_hull}
 use Rattle.evm_delta.proofs.Columns.{opened, columns_agree}
 use Rattle.evm_delta.proofs.hulls.near_columns.Goals as goal
 

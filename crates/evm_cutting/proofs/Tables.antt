@@ -5,7 +5,7 @@ use Rattle.evm_cells.proofs.Xor.{and_first, and_second}
 use Rattle.evm_boolean.specs.declared.boolean.Op2.{Op2}
 use Rattle.evm_boolean.specs.declared.boolean.Op2.TheVariants.{Or, And, Sub, Xor}
 use Rattle.evm_boolean.specs.Tower.{fills}
-use Rattle.evm_delta.specs.Changes.{follows_left, follows_right}
+use Rattle.evm_cutting.specs.Changes.{follows_left, follows_right}
 
 abbrev pub always : (Bool → Bool) → Bool
 always f = f true && f false

@@ -7,8 +7,8 @@ use Rattle.evm_rows.proofs.RowsLaws.{rows_of-none}
 use Rattle.evm_rows.proofs.BoxTests.{same32}
 use Rattle.evm_shapes.proofs.Shifted.{coord_32}
 use Rattle.evm_cutting.proofs.Planes.{ends_of}
-use Rattle.evm_delta.proofs.HullLaws.{low_start, low_step, low_end, high_start, high_step, high_end, first_point, either_point, row_point}
-use Rattle.evm_delta.proofs.hulls.span.Goals as goal
+use Rattle.evm_cutting.proofs.HullLaws.{low_start, low_step, low_end, high_start, high_step, high_end, first_point, either_point, row_point}
+use Rattle.evm_cutting.proofs.hulls.span.Goals as goal
 
 pub loop-left-init : goal.loop-left-init
 loop-left-init c =

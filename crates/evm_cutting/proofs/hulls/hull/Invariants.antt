@@ -1,7 +1,7 @@
 use Rattle.std.proofs.Common.{◌≡◌, length}
 use Rattle.evm_rows.specs.View.{vertices_of}
-use Rattle.evm_delta.specs.Hulls.{IsAround}
-use Rattle.evm_delta.proofs.hulls.hull.Given as goal
+use Rattle.evm_cutting.specs.Hulls.{IsAround}
+use Rattle.evm_cutting.proofs.hulls.hull.Given as goal
 
 abbrev pub invariant-loop-axis : goal.invariant-loop-axis
 invariant-loop-axis l = record {

@@ -1,22 +1,25 @@
 -- A box round the rows of a change holds its cells.
 use Rattle.std.proofs.Common.{◌≡◌, ℕ, zero, suc, ◌<◌, ◌≤◌, ◌<ℤ◌, ◌≤ℤ◌, Bool, true, false, cond, ◌&&◌, List, [], ◌∷◌, length, take, ℤ, int_le, int_lt, refl, sym, ap, ap₂, ◌∙◌, arith}
 use Rattle.std.specs.List.{list_all}
+use Rattle.std.proofs.lemmas.Bool.{false≢true}
 use Rattle.std.proofs.lemmas.Int.{ints as int_facts}
 use Rattle.evm_cells.specs.Places.{each, has}
 use Rattle.evm_cells.specs.Limits.{is_point, is_point_coord, is_cell, IsCellSet}
 use Rattle.evm_cells.specs.Boxes.{is_box}
+use Rattle.evm_cells.specs.Shapes.{clip}
 use Rattle.evm_cells.specs.Vertices.{evm, cells, IsVertexList}
 use Rattle.evm_cells.specs.Windows.{is_under, is_over}
-use Rattle.evm_cells.proofs.Xor.{and_first, and_second, and_both}
+use Rattle.evm_cells.proofs.Xor.{and_first, and_second, and_both, and-true}
 use Rattle.evm_cells.proofs.Coords.{le_is, le_yes, lt_is, lt_yes}
 use Rattle.evm_cells.proofs.Universe.{point_parts, point_from, cell_parts, member_passes, cell_set-cells}
 use Rattle.evm_cells.proofs.Core.{evm-cells}
-use Rattle.evm_cells.proofs.Layers.{evm-empty}
+use Rattle.evm_cells.proofs.Insides.{has-clip_of}
+use Rattle.evm_cells.proofs.Layers.{evm-empty, cells-empty}
 use Rattle.evm_cells.proofs.Slices.{coord, all-coord}
 use Rattle.evm_cells.proofs.Sides.{rows_under, rows_over}
-use Rattle.evm_rows.specs.Rows.{Vertices}
+use Rattle.evm_rows.specs.Rows.{Vertices, cells_of}
 use Rattle.evm_cutting.proofs.Planes.{long}
-use Rattle.evm_delta.specs.Hulls.{IsAround}
+use Rattle.evm_cutting.specs.Hulls.{IsAround, AgreesOn}
 
 -- ---- lists, coordinate by coordinate
 
@@ -91,6 +94,34 @@ is_hull n lo hi v d ll lh w some a =
     let low : coord i lo ≤ℤ coord i c = le_is (coord i lo) (coord i c) (passes (is_over i (coord i lo)) (rows_over n i (coord i lo) v.rows j w b.rows)) in
     let high : coord i c <ℤ coord i hi = lt_is (coord i c) (coord i hi) (passes (is_under i (coord i hi)) (rows_under n i (coord i hi) v.rows j w t.rows)) in
     ap₂ int_lt (coord-take n i lo j) (coord-take n i hi j) ∙ lt_yes (coord i lo) (coord i hi) (omega (arith, int_facts))))
+
+-- ---- what a solid has in the box
+
+pub of_dim : (n : ℕ) (v : Vertices) (c : List ℤ) → v.dim ≡ n → has (cells_of v) c ≡ has (cells n v.rows) c
+of_dim n v c e = ap (λ (m : ℕ). has (cells m v.rows) c) e
+
+-- a part of a solid, cut out by a box that holds the cells of d
+pub part_agrees : (n : ℕ) (lo hi : List ℤ) (d t s : Vertices) → d.dim ≡ n → t.dim ≡ n → cells_of s ≡ clip n lo hi (cells n t.rows)
+    → ((c : List ℤ) → has (cells n d.rows) c ≡ true → (is_cell n c && (each int_le lo c && each int_lt c hi)) ≡ true) → AgreesOn d t s
+part_agrees n lo hi d t s ed et e inside c m =
+    ap (λ S. has S c) e ∙ has-clip_of n lo hi (cells n t.rows) c (cell_set-cells n t.rows)
+    ∙ ap (λ w. has (cells n t.rows) c && w) (inside c (sym (of_dim n d c ed) ∙ m))
+    ∙ and-true (has (cells n t.rows) c) ∙ sym (of_dim n t c et)
+
+-- what a solid has in the box agrees with it on the change
+pub hull_agrees : (n : ℕ) (lo hi : List ℤ) (d t s : Vertices) → d.dim ≡ n → t.dim ≡ n → n ≤ length lo → n ≤ length hi → IsVertexList n d.rows → IsAround n lo hi d
+    → cells_of s ≡ clip n (take n lo) (take n hi) (cells n t.rows) → AgreesOn d t s
+hull_agrees n lo hi d t s ed et ll lh w a e =
+    part_agrees n (take n lo) (take n hi) d t s ed et e (λ c m. is_inside n lo hi d c ed ll lh w a m)
+
+-- near nothing all agree
+pub none_agrees : (d t s : Vertices) → length d.rows ≡ 0 → AgreesOn d t s
+unfolding has
+none_agrees d t s e c m = absurd (false≢true (sym (ap (λ (S : List (List ℤ)). has S c) (ap (cells d.dim) (none d.rows e) ∙ cells-empty d.dim)) ∙ m))
+  where
+    none : (xs : List (List ℤ)) → length xs ≡ 0 → xs ≡ []
+    none [] e = refl
+    none (x ∷ xs) e = absurd (omega (arith, e))
 
 -- ---- steps of the loops
 

@@ -2,8 +2,8 @@ use Rattle.std.proofs.Common.{◌≡◌, ◌%◌, ◌-◌, true, length}
 use Rattle.std.specs.List.{list_all}
 use Rattle.evm_cells.specs.Limits.{is_point, is_point_coord}
 use Rattle.evm_rows.specs.Rows.{rows_of}
-use Rattle.evm_delta.proofs.HullLaws.{LowOnward, HighOnward}
-use Rattle.evm_delta.proofs.hulls.span.Given as goal
+use Rattle.evm_cutting.proofs.HullLaws.{LowOnward, HighOnward}
+use Rattle.evm_cutting.proofs.hulls.span.Given as goal
 
 abbrev pub invariant-loop-left : goal.invariant-loop-left
 invariant-loop-left l = record {
