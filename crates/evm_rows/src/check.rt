@@ -11,7 +11,7 @@ ghost use Rattle.evm_rows.specs.declared.check.RowError.{RowError};
 ghost use Rattle.evm_rows.specs.declared.check.RowError.TheVariants.{NoMemory};
 
 use crate::groups::first_group;
-use crate::merge::{extend_by_rows, extend_by_xor, split_row};
+use crate::merge::{extend_by_rows, extend_by_xor, row_order, split_row};
 use crate::solid::{Solid, limit};
 use std::alloc::{AllocError, AllocFailed, Global};
 use std::cmp::Ordering;
@@ -60,11 +60,13 @@ fn is_within(row: &[i32]) -> bool
     true
 }
 
-// Whether p comes before q.
+// Whether p comes before q, of one length.
+#[inline(always)]
 fn comes_before(p: &[i32], q: &[i32]) -> bool
+    requires { length p.now ≡ length q.now }
     ensures { result ≡ before p.now q.now }
 {
-    p.cmp(q) == Ordering::Less
+    row_order(p, q) == Ordering::Less
 }
 
 // The first row with a coordinate past the limits.

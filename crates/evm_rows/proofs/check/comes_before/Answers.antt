@@ -5,4 +5,4 @@ use Rattle.evm_rows.proofs.Bridge.{before-cmp}
 use Rattle.evm_rows.proofs.check.comes_before.Goals as goal
 
 pub returns : goal.returns
-returns c = c.eq.ensures ∙ sym (is_lt_index c.cmp.result) ∙ ap is_lt c.cmp.ensures ∙ sym (before-cmp c.args.p.now c.args.q.now)
+returns c = c.eq.ensures ∙ sym (is_lt_index c.row_order.result) ∙ ap is_lt c.row_order.ensures ∙ sym (before-cmp c.args.p.now c.args.q.now)

@@ -14,6 +14,7 @@ loop-later-preserved c = record {
   some = omega arith;
   counted = let a = c.loop-later.invariant.counted in let b = c.split_row-in-loop-later.ensures.shorter in let d = c.requires.left in omega arith;
   left = left_more _ c.loop-later.number _ _ _ c.loop-later.invariant.left c.split_row-in-loop-later.ensures.first;
+  wide = c.split_row-in-loop-later.ensures.wide;
   latest = latest_more _ c.loop-later.number _ _ _ c.loop-later.invariant.left c.split_row-in-loop-later.ensures.first;
   passed = rise_more _ c.loop-later.number _ _ _ _ c.loop-later.invariant.left c.split_row-in-loop-later.ensures.first c.loop-later.invariant.latest c.if-not-comes_before.ensures c.loop-later.invariant.passed;
 }

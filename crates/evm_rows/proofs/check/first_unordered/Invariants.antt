@@ -9,6 +9,7 @@ invariant-loop-later l = record {
   some : 0 < l.number;
   counted : l.number + length l.later ≤ length l.flat;
   left : drop l.number (rows_of l.flat l.width l.skip) ≡ rows_of l.later l.width l.skip;
+  wide : length l.last + l.skip ≡ l.width;
   latest : get_or (rows_of l.flat l.width l.skip) (l.number - 1) [] ≡ l.last;
   passed : (j : ℕ) → 0 < j → j < l.number → before (get_or (rows_of l.flat l.width l.skip) (j - 1) []) (get_or (rows_of l.flat l.width l.skip) j []) ≡ true;
 }
