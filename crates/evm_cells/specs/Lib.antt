@@ -13,3 +13,4 @@ pub mod Windows
 pub mod Localities
 pub mod Unions
 pub mod Parts
+pub mod Heights
