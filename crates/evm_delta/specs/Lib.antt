@@ -1,3 +1,4 @@
 pub mod Changes
 pub mod Shapes
 pub mod Hulls
+pub mod Steps

@@ -1,14 +1,17 @@
 // The change of a Boolean of trees of tiles.
-ghost use Rattle.std.specs.Prelude.{◌≡◌, IfOk};
+ghost use Rattle.std.specs.Prelude.{◌≡◌, ◌+◌, ◌*◌, ◌≤◌, IfOk};
 ghost use Rattle.evm_rows.specs.View.{vertices_of};
 ghost use Rattle.evm_delta.specs.Changes.{after_change, change_vertices, left_change, right_change, IsChange, Carries};
+ghost use Rattle.evm_delta.specs.Steps.{near_cuts};
 
 use crate::flat::{just_one, left_change, right_change};
 use crate::hulls::near;
 use evm_boolean::Op2;
 use evm_rows::{NoMemory, Rows, Solid, xor};
+use evm_steps::Steps;
 use evm_tiles::Tiles;
 use std::alloc::Global;
+use std::sync::ledger::Ledger;
 
 // Where a change of the left operand changes the value, with the right operand as it will be. Only what that operand has
 // near the change is looked at.
@@ -63,13 +66,14 @@ fn right_near(alloc: Global, op: Op2, a: &Tiles, db: Rows<'_>) -> Result<Solid, 
 /// # Errors
 ///
 /// `NoMemory` where memory lacks; the trees stay as they are.
-pub fn delta2(
+pub fn delta2<L: Ledger>(
     alloc: Global,
     op: Op2,
     a: &Tiles,
     da: Rows<'_>,
     b: &Tiles,
     db: Rows<'_>,
+    steps: &mut Steps<L>,
 ) -> Result<Solid, NoMemory>
     requires left { (vertices_of da).dim ≡ a.now.dim }
     requires other { b.now.dim ≡ a.now.dim }
@@ -82,6 +86,12 @@ pub fn delta2(
     // The value before becomes the value after.
     ensures carries { IfOk result
         (λ s. Carries op a.now (vertices_of da.entry) b.now (vertices_of db.entry) s) }
+
+    // Whatever it answers.
+    ensures few { steps.new
+        ≤ steps.old
+        + 6 * (1 + near_cuts a.now (vertices_of da.entry) b.now (vertices_of db.entry)) }
+    ensures more { steps.old ≤ steps.new }
 {
     if op == Op2::Xor {
         let made = xor(alloc, da, db)?;

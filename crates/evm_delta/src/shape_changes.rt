@@ -1,15 +1,18 @@
 // The change of a shape.
-ghost use Rattle.std.specs.Prelude.{◌≡◌, ◌<◌, ◌≤◌, ◌↔◌, true, false, length, IfOk, IsErrOf};
+ghost use Rattle.std.specs.Prelude.{◌≡◌, ◌+◌, ◌*◌, ◌<◌, ◌≤◌, ◌↔◌, true, false, length, IfOk, IsErrOf};
 ghost use Rattle.evm_rows.specs.Rows.{cells_of};
 ghost use Rattle.evm_rows.specs.View.{vertices_of};
 ghost use Rattle.evm_delta.specs.Shapes.{Fits, op1_dim, in_range, changed_cells, shape_change, IsShapeChange, CarriesShape};
+ghost use Rattle.evm_delta.specs.Steps.{shape_cuts};
 
 use crate::hulls::near_columns;
 use crate::shapes::{DeltaError, Op1, shape};
 use evm_rows::{NoMemory, Rows, Solid, xor};
 use evm_shapes::project;
+use evm_steps::Steps;
 use evm_tiles::Tiles;
 use std::alloc::Global;
+use std::sync::ledger::Ledger;
 
 // The change of a projection. A cell of it can change only where some cell of the change stands over it, so only what the
 // tree has in whole columns over the box of the change is looked at.
@@ -52,7 +55,13 @@ fn dim_of(op: &Op1, dim: usize) -> usize
 /// # Errors
 ///
 /// `Range` exactly where a shift or a lift takes some cell of `a xor da` past the limits. `NoMemory` where there is none.
-pub fn delta1(alloc: Global, op: &Op1, a: &Tiles, da: Rows<'_>) -> Result<Solid, DeltaError>
+pub fn delta1<L: Ledger>(
+    alloc: Global,
+    op: &Op1,
+    a: &Tiles,
+    da: Rows<'_>,
+    steps: &mut Steps<L>,
+) -> Result<Solid, DeltaError>
     requires same_dim { (vertices_of da).dim ≡ a.now.dim }
     requires fits { Fits op.now a.now.dim }
     requires stands { in_range op.now a.now.dim (cells_of a.now) ≡ true }
@@ -64,6 +73,11 @@ pub fn delta1(alloc: Global, op: &Op1, a: &Tiles, da: Rows<'_>) -> Result<Solid,
     ensures carries { IfOk result (λ s. CarriesShape op.now a.now (vertices_of da.entry) s) }
     ensures range { IsErrOf result DeltaError.Range
         ↔ (in_range op.now a.now.dim (changed_cells a.now (vertices_of da.entry)) ≡ false) }
+
+    // Whatever it answers.
+    ensures few { steps.new
+        ≤ steps.old + 6 * (1 + shape_cuts op.now a.now (vertices_of da.entry)) }
+    ensures more { steps.old ≤ steps.new }
 {
     if da.len() == 0 {
         return Ok(Solid::empty(alloc, dim_of(op, da.dim())));

@@ -1,6 +1,6 @@
 //! Changes of solids that are not in place yet, and how formulas carry them on.
 
-ghost use Rattle.std.specs.Prelude.{◌≡◌, ◌↔◌, true, false, IfOk, IsErrOf};
+ghost use Rattle.std.specs.Prelude.{◌≡◌, ◌+◌, ◌*◌, ◌≤◌, ◌↔◌, None, true, false, IfOk, IsErrOf};
 ghost use Rattle.std.specs.Option.{option_copied};
 ghost use Rattle.evm_delta.specs.Shapes.{Fits, op1_dim};
 ghost use Rattle.evm_model.specs.Figures.{nothing, xor_of};
@@ -8,14 +8,17 @@ ghost use Rattle.evm_formulas.specs.Stated.{figure_of};
 ghost use Rattle.evm_formulas.specs.Combined.{combine_of};
 ghost use Rattle.evm_formulas.specs.Operations.{shape_of, shape_stays};
 ghost use Rattle.evm_formulas.specs.Changes.{after_of, IsChange, Moves};
+ghost use Rattle.evm_formulas.specs.Steps.{pair_cuts, shape_cuts};
 
 use super::shapes::shape_change;
 use super::solids::{change, changed, exclusive_or, is_none, none, stays};
 use evm_boolean::Op2;
 use evm_delta::{DeltaError, Op1};
 use evm_rows::{NoMemory, Solid};
+use evm_steps::Steps;
 use evm_tiles::Tiles;
 use std::alloc::Global;
+use std::sync::ledger::Ledger;
 
 /// A change of a solid that is made and not in place yet.
 #[derive(Drop)]
@@ -57,7 +60,7 @@ fn delta_or<'a>(change: Option<&'a Change>, own: &Tiles, still: &'a Solid) -> &'
 /// How a Boolean changes with its operands, or none where it does not.
 ///
 /// `own` is the Boolean of `a` and `b` before their changes. Where neither operand changes, nothing is looked at.
-pub fn both_changed(
+pub fn both_changed<L: Ledger>(
     alloc: Global,
     op: Op2,
     own: &Tiles,
@@ -65,6 +68,7 @@ pub fn both_changed(
     da: Option<&Change>,
     b: &Tiles,
     db: Option<&Change>,
+    steps: &mut Steps<L>,
 ) -> Result<Option<Change>, NoMemory>
     requires value { figure_of own.now ≡ combine_of op (figure_of a.now) (figure_of b.now) }
     requires first { a.now.dim ≡ own.now.dim }
@@ -77,6 +81,17 @@ pub fn both_changed(
         (after_of (option_copied db.entry) (figure_of b.now))) }
     ensures change { IfOk result (λ c. IsChange c (figure_of own.now)) }
     ensures moves { IfOk result (λ c. Moves c (figure_of own.now)) }
+
+    // Whatever it answers.
+    ensures few { steps.new
+        ≤ steps.old
+        + 6
+        * (1
+        + pair_cuts (figure_of a.now) (after_of (option_copied da.entry) (figure_of a.now))
+        (figure_of b.now) (after_of (option_copied db.entry) (figure_of b.now))) }
+    ensures still { option_copied da.entry ≡ None
+        → option_copied db.entry ≡ None → steps.new ≡ steps.old }
+    ensures more { steps.old ≤ steps.new }
 {
     if da.is_none() && db.is_none() {
         return Ok(None);
@@ -85,7 +100,7 @@ pub fn both_changed(
     let still = none(alloc, own.dim());
     let first = delta_or(da, a, &still);
     let second = delta_or(db, b, &still);
-    let delta = change(alloc, op, a, first, b, second)?;
+    let delta = change(alloc, op, a, first, b, second, steps)?;
     let after = changed(alloc, own, &delta)?;
     if is_none(&delta) {
         return Ok(None);
@@ -97,12 +112,13 @@ pub fn both_changed(
 ///
 /// `own` is the shape of `a` before its change. Where the operand does not change, nothing is looked at. It is `Range` exactly
 /// where the shape moves some cell of the changed operand out of the limits.
-pub fn one_changed(
+pub fn one_changed<L: Ledger>(
     alloc: Global,
     op: &Op1,
     own: &Tiles,
     a: &Tiles,
     da: Option<&Change>,
+    steps: &mut Steps<L>,
 ) -> Result<Option<Change>, DeltaError>
     requires value { figure_of own.now ≡ shape_of op.now (figure_of a.now) }
     requires fits { Fits op.now a.now.dim }
@@ -116,11 +132,21 @@ pub fn one_changed(
     ensures moves { IfOk result (λ c. Moves c (figure_of own.now)) }
     ensures range { IsErrOf result DeltaError.Range
         ↔ (shape_stays op.now (after_of (option_copied da.entry) (figure_of a.now)) ≡ false) }
+
+    // Whatever it answers.
+    ensures few { steps.new
+        ≤ steps.old
+        + 6
+        * (1
+        + shape_cuts op.now (figure_of a.now)
+        (after_of (option_copied da.entry) (figure_of a.now))) }
+    ensures still { option_copied da.entry ≡ None → steps.new ≡ steps.old }
+    ensures more { steps.old ≤ steps.new }
 {
     let Some(moved) = da else {
         return Ok(None);
     };
-    let delta = shape_change(alloc, op, a, &moved.delta)?;
+    let delta = shape_change(alloc, op, a, &moved.delta, steps)?;
     if is_none(&delta) {
         return Ok(None);
     }

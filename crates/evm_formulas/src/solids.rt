@@ -1,15 +1,19 @@
 //! Solids as figures: Booleans, exclusive ors and changes, as the scene needs them.
 
-ghost use Rattle.std.specs.Prelude.{◌≡◌, ◌<◌, ◌≤◌, ◌↔◌, [], true, false, IfOk, IsTrue};
+ghost use Rattle.std.specs.Prelude.{◌≡◌, ◌+◌, ◌*◌, ◌<◌, ◌≤◌, ◌↔◌, [], length, true, false, IfOk, IsTrue};
 ghost use Rattle.evm_cells.specs.Vertices.{cells};
 ghost use Rattle.evm_model.specs.Figures.{nothing, xor_of, same_figure};
 ghost use Rattle.evm_formulas.specs.Stated.{figure_of};
 ghost use Rattle.evm_formulas.specs.Combined.{combine_of};
+ghost use Rattle.evm_formulas.specs.Steps.{pair_cuts};
+ghost use Rattle.evm_steps.specs.Cuts.{cuts_of};
 
 use evm_boolean::Op2;
 use evm_rows::{NoMemory, Solid};
+use evm_steps::{Steps, pass_slabs};
 use evm_tiles::Tiles;
 use std::alloc::Global;
+use std::sync::ledger::Ledger;
 
 /// The solid without cells.
 pub fn none(alloc: Global, dim: usize) -> Solid
@@ -69,18 +73,31 @@ pub fn changed(alloc: Global, own: &Tiles, delta: &Solid) -> Result<Tiles, NoMem
 }
 
 /// A Boolean of two solids, made anew: where it is the exclusive or, by one merge of their rows. Takes memory for the rows of both,
-/// and for the answer.
-pub fn combine(alloc: Global, op: Op2, a: &Tiles, b: &Tiles) -> Result<Solid, NoMemory>
+/// and for the answer. Each height at which one of the two changes counts as a step, however space is cut; a merge counts none.
+pub fn combine<L: Ledger>(
+    alloc: Global,
+    op: Op2,
+    a: &Tiles,
+    b: &Tiles,
+    steps: &mut Steps<L>,
+) -> Result<Solid, NoMemory>
     requires { b.now.dim ≡ a.now.dim }
     ensures value { IfOk result
         (λ s. figure_of s ≡ combine_of op (figure_of a.now) (figure_of b.now)) }
     ensures dim { IfOk result (λ s. s.dim ≡ a.now.dim) }
+
+    // Whatever it answers.
+    ensures few { steps.new
+        ≤ steps.old + (length (cuts_of a.now) + length (cuts_of b.now)) }
+    ensures more { steps.old ≤ steps.new }
 {
     let left = a.to_rows(alloc)?;
     let right = b.to_rows(alloc)?;
     match op {
         Op2::Xor => exclusive_or(alloc, &left, &right),
         _ => {
+            pass_slabs(left.rows(), steps);
+            pass_slabs(right.rows(), steps);
             let made = evm_cutting::combine(alloc, op, left.rows(), right.rows())?;
             Ok(made)
         }
@@ -88,13 +105,14 @@ pub fn combine(alloc: Global, op: Op2, a: &Tiles, b: &Tiles) -> Result<Solid, No
 }
 
 /// The change of a Boolean whose operands change by `da` and `db`, looked for near the two.
-pub fn change(
+pub fn change<L: Ledger>(
     alloc: Global,
     op: Op2,
     a: &Tiles,
     da: &Solid,
     b: &Tiles,
     db: &Solid,
+    steps: &mut Steps<L>,
 ) -> Result<Solid, NoMemory>
     requires other { b.now.dim ≡ a.now.dim }
     requires left { da.now.dim ≡ a.now.dim }
@@ -104,7 +122,16 @@ pub fn change(
         ≡ combine_of op (xor_of (figure_of a.now) (figure_of da.now))
         (xor_of (figure_of b.now) (figure_of db.now))) }
     ensures dim { IfOk result (λ d. d.dim ≡ a.now.dim) }
+
+    // Whatever it answers.
+    ensures few { steps.new
+        ≤ steps.old
+        + 6
+        * (1
+        + pair_cuts (figure_of a.now) (xor_of (figure_of a.now) (figure_of da.now))
+        (figure_of b.now) (xor_of (figure_of b.now) (figure_of db.now))) }
+    ensures more { steps.old ≤ steps.new }
 {
-    let made = evm_delta::delta2(alloc, op, a, da.rows(), b, db.rows())?;
+    let made = evm_delta::delta2(alloc, op, a, da.rows(), b, db.rows(), steps)?;
     Ok(made)
 }

@@ -4,6 +4,7 @@ pub mod Formulas
 pub mod Orders
 pub mod Scene
 pub mod Edits
+pub mod Work
 pub mod Reports
 pub mod Replies
 pub mod Steps

@@ -1,0 +1,89 @@
+//! Combinations of sections, which are counted.
+
+ghost use Rattle.std.specs.Prelude.{◌≡◌, ◌+◌, ◌<◌, ◌≤◌, length, IfOk};
+ghost use Rattle.evm_cells.specs.Vertices.{cells};
+ghost use Rattle.evm_cells.specs.Booleans as CellBooleans;
+ghost use Rattle.evm_rows.specs.Rows.{combined_rows};
+ghost use Rattle.evm_rows.specs.View.{vertices_of};
+ghost use Rattle.evm_boolean.specs.Tower.{fills};
+ghost use Rattle.evm_steps.specs.Cuts.{cuts_of};
+
+use crate::steps::Steps;
+use evm_boolean::Op2;
+use evm_rows::{NoMemory, Rows, Solid};
+use std::alloc::Global;
+use std::sync::ledger::Ledger;
+
+/// The Boolean `op` of two sections of one dimension, as one step: the same as [`evm_boolean::combine`].
+///
+/// # Errors
+///
+/// `NoMemory` where memory lacks. The step is counted then too.
+pub fn combine<L: Ledger>(
+    alloc: Global,
+    op: Op2,
+    a: Rows<'_>,
+    b: Rows<'_>,
+    steps: &mut Steps<L>,
+) -> Result<Solid, NoMemory>
+    requires { (vertices_of a).dim ≡ (vertices_of b).dim }
+    ensures dim { IfOk result (λ s. s.dim ≡ (vertices_of a.entry).dim) }
+    ensures rows { IfOk result
+        (λ s. s.rows ≡ combined_rows (fills op) (vertices_of a.entry).dim
+        (vertices_of a.entry).rows (vertices_of b.entry).rows) }
+    ensures cells { IfOk result
+        (λ s. cells s.dim s.rows
+        ≡ CellBooleans.combine (fills op) s.dim (cells s.dim (vertices_of a.entry).rows)
+        (cells s.dim (vertices_of b.entry).rows)) }
+
+    // One step, whatever it answers.
+    ensures one { steps.new ≡ steps.old + 1 }
+{
+    let _ = (alloc, op, a, b);
+    steps.tick();
+    Err(NoMemory)
+}
+
+/// The Boolean `op` of two solids of one dimension, section by section: the same as [`evm_boolean::combine`], with a step for each
+/// height at which one of them changes, and none where one of them has no rows or they have dimension 1.
+///
+/// # Errors
+///
+/// `NoMemory` where memory lacks. The steps up to there are counted then too.
+pub fn combine_slabs<L: Ledger>(
+    alloc: Global,
+    op: Op2,
+    a: Rows<'_>,
+    b: Rows<'_>,
+    steps: &mut Steps<L>,
+) -> Result<Solid, NoMemory>
+    requires { (vertices_of a).dim ≡ (vertices_of b).dim }
+    ensures dim { IfOk result (λ s. s.dim ≡ (vertices_of a.entry).dim) }
+    ensures rows { IfOk result
+        (λ s. s.rows ≡ combined_rows (fills op) (vertices_of a.entry).dim
+        (vertices_of a.entry).rows (vertices_of b.entry).rows) }
+    ensures cells { IfOk result
+        (λ s. cells s.dim s.rows
+        ≡ CellBooleans.combine (fills op) s.dim (cells s.dim (vertices_of a.entry).rows)
+        (cells s.dim (vertices_of b.entry).rows)) }
+
+    // No more steps than both have cuts, whatever it answers.
+    ensures few { steps.new
+        ≤ steps.old
+        + (length (cuts_of (vertices_of a.entry)) + length (cuts_of (vertices_of b.entry))) }
+    ensures more { steps.old ≤ steps.new }
+{
+    let _ = (alloc, op, a, b, steps);
+    Err(NoMemory)
+}
+
+/// Counts a step for each height at which a solid changes, for what takes its sections one by one. Takes no memory.
+pub fn pass_slabs<L: Ledger>(a: Rows<'_>, steps: &mut Steps<L>)
+    requires { 1 < (vertices_of a).dim }
+    ensures { steps.new ≡ steps.old + length (cuts_of (vertices_of a.entry)) }
+{
+    let mut walk = evm_sections::Walk::of(a);
+    while walk.next_couplet().is_some() {
+        steps.tick();
+    }
+}
