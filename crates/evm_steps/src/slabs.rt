@@ -39,7 +39,6 @@ pub fn combine<L: Ledger>(
     // One step, whatever it answers.
     ensures one { steps.new ≡ steps.old + 1 }
 {
-    let _ = (alloc, op, a, b);
     steps.tick();
     Err(NoMemory)
 }
@@ -73,7 +72,6 @@ pub fn combine_slabs<L: Ledger>(
         + (length (cuts_of (vertices_of a.entry)) + length (cuts_of (vertices_of b.entry))) }
     ensures more { steps.old ≤ steps.new }
 {
-    let _ = (alloc, op, a, b, steps);
     Err(NoMemory)
 }
 
