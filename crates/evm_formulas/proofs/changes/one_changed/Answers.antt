@@ -9,7 +9,7 @@ use Rattle.evm_formulas.proofs.ShapeValues.{still_shape}
 use Rattle.evm_formulas.proofs.changes.one_changed.Goals as goal
 
 pub returns-then-is_none-clause-after : goal.returns-then-is_none-clause-after
-returns-then-is_none-clause-after c =
+returns-then-is_none-clause-after g c =
     let here : option_copied c.args.da ≡ Some c.in-Some.moved.now = ap option_copied c.in-Some.is in
     let change : IsChange (Some c.in-Some.moved.now) (figure_of c.args.a.now) = subst (λ (o : Option Change). IsChange o (figure_of c.args.a.now)) here c.requires.change in
     still_shape c.args.op.now (figure_of c.args.own.now) (figure_of c.args.a.now) c.in-Some.moved.now c.in_ok-delta.delta

@@ -11,10 +11,10 @@ use Rattle.evm_formulas.proofs.ShapeValues.{stays_made, stays_after, shape_carri
 use Rattle.evm_formulas.proofs.shapes.shape_change.Goals as goal
 
 pub delta1-requires-clause-stands : goal.delta1-requires-clause-stands
-delta1-requires-clause-stands c = stays_made c.args.op.now c.args.a.now c.args.a.now refl ∙ c.requires.stays
+delta1-requires-clause-stands g c = stays_made c.args.op.now c.args.a.now c.args.a.now refl ∙ c.requires.stays
 
 pub returns-clause-carries : goal.returns-clause-carries
-returns-clause-carries c =
+returns-clause-carries g c =
     let v : Vertices = c.args.a.now in
     let w : Vertices = vertices_of c.rows.result in
     from_both c.delta1.result (λ d. d.dim ≡ op1_dim c.args.op.now v.dim) (λ d. xor_cells d.dim (shape_before c.args.op.now v) (cells_of d) ≡ shape_after c.args.op.now v w)
@@ -22,7 +22,7 @@ returns-clause-carries c =
     (λ d n e. shape_carries c.args.op.now c.args.a.now v refl c.args.da.now w c.rows.ensures c.requires.same d n e) c.delta1.ensures.dim c.delta1.ensures.carries
 
 pub returns-clause-range : goal.returns-clause-range
-returns-clause-range c =
+returns-clause-range g c =
     let v : Vertices = c.args.a.now in
     let w : Vertices = vertices_of c.rows.result in
     range_by _ (in_range c.args.op.now v.dim (changed_cells v w)) (shape_stays c.args.op.now (xor_of (figure_of c.args.a.now) (figure_of c.args.da.now)))
