@@ -155,10 +155,14 @@ fn merged(alloc: Global, a: &[i32], b: &[i32], width: usize) -> Result<Vec<i32>,
     Ok(out)
 }
 
-// The places that occur an odd number of times among the rows without their first `skip` numbers, ascending. Rows that
-// do not ascend are halved, and the places of the halves merged, where equal ones cancel: rows of a solid mostly do so
-// at once, since one couplet's rows are much like the next one's.
-fn odd_places(
+/// The places that occur an odd number of times among the rows of flat numbers without their first `skip` numbers, ascending.
+/// Rows have `width` numbers.
+///
+/// Rows that do not ascend are halved, and the places of the halves merged, where equal ones cancel: rows of a solid mostly do so
+/// at once, since one couplet's rows are much like the next one's. Of the rows of a solid up to a height of the first axis,
+/// without that coordinate, these places are the vertices of the section above the height. Takes memory for the rows at most
+/// twice, which it gives back, beside the answer. The one error is want of memory.
+pub fn odd_places(
     alloc: Global,
     flat: &[i32],
     width: usize,
