@@ -81,7 +81,7 @@ pub fn pass_slabs<L: Ledger>(a: Rows<'_>, steps: &mut Steps<L>)
     ensures { steps.new ≡ steps.old + length (cuts_of (vertices_of a.entry)) }
 {
     let mut walk = evm_sections::Walk::of(a);
-    while walk.next_couplet().is_some() {
+    while let Some(_couplet) = walk.next_couplet() {
         steps.tick();
     }
 }
