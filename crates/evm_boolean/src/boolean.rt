@@ -53,8 +53,9 @@ pub fn lower_of(x: Option<i32>, y: Option<i32>) -> Option<i32>
     }
 }
 
-// The section above the height and room for another solid; the walk goes past the height.
-fn advance(
+/// The section above a height, from the `section` below it, and room for another solid; the walk goes past the height where its
+/// next couplet stands there. The one error is want of memory.
+pub fn advance(
     walk: &mut Walk<'_>,
     height: i32,
     section: Solid,
@@ -175,12 +176,15 @@ pub fn combine(alloc: Global, op: Op2, a: Rows<'_>, b: Rows<'_>) -> Result<Solid
 {
     let room = Solid::empty(alloc, 1);
     let mut rooms = Vec::new(alloc);
-    let solid = combine_into(alloc, op, a, b, room, &mut rooms)?;
+    let solid = combine_in(alloc, op, a, b, room, &mut rooms)?;
     Ok(solid)
 }
 
-// The Boolean of two views, in the room of a solid that is done with. It takes further rooms from `rooms` and gives them back.
-fn combine_into(
+/// The Boolean `op` of two views of one dimension: the same as [`combine`], in the room of a solid that is done with.
+///
+/// It takes further rooms from `rooms` and gives them back, so a caller with many small Booleans allocates only while its rooms
+/// grow. The one error is want of memory, after which the room is gone.
+pub fn combine_in(
     alloc: Global,
     op: Op2,
     a: Rows<'_>,
@@ -223,7 +227,7 @@ fn combine_into(
         below_a = next_a;
         let (next_b, old_b) = advance(&mut right, height, below_b, old_a)?;
         below_b = next_b;
-        let above = combine_into(alloc, op, below_a.rows(), below_b.rows(), other, rooms)?;
+        let above = combine_in(alloc, op, below_a.rows(), below_b.rows(), other, rooms)?;
         out = append_xor(out, Some(height), below.rows(), above.rows())?;
         spare = old_b;
         other = below;

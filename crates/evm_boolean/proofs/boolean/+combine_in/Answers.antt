@@ -11,7 +11,7 @@ use Rattle.evm_boolean.proofs.Cuts.{cuts-fall}
 use Rattle.evm_boolean.proofs.TowerCells.{tower_is_at, fills-none}
 use Rattle.evm_boolean.proofs.TowerSteps.{tower_more, tower_done}
 use Rattle.evm_boolean.proofs.Answer.{answer_rows, answer_is}
-use Rattle.evm_boolean.proofs.boolean.+combine_into.Goals as goal
+use Rattle.evm_boolean.proofs.boolean.+combine_in.Goals as goal
 
 pub loop-height-smaller : goal.loop-height-smaller
 loop-height-smaller t c =

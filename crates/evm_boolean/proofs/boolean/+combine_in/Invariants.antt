@@ -2,10 +2,10 @@ use Rattle.std.proofs.Common.{◌≡◌, ◌+◌, ◌-◌, ◌<◌, ◌++◌, le
 use Rattle.evm_rows.specs.Rows.{rows_of, flat_of, combined_rows}
 use Rattle.evm_boolean.specs.Tower.{fills}
 use Rattle.evm_boolean.proofs.TowerSteps.{tower, cuts_of}
-use Rattle.evm_boolean.proofs.boolean.+combine_into.Given as goal
+use Rattle.evm_boolean.proofs.boolean.+combine_in.Given as goal
 
-abbrev pub decreases-combine_into : goal.decreases-combine_into
-decreases-combine_into l = l.a.width - l.a.skip
+abbrev pub decreases-combine_in : goal.decreases-combine_in
+decreases-combine_in l = l.a.width - l.a.skip
 
 abbrev pub invariant-loop-height : goal.invariant-loop-height
 invariant-loop-height l = record {
