@@ -1,5 +1,5 @@
 -- The figures of solids, and the laws of their exclusive or.
-use Rattle.std.proofs.Common.{◌≡◌, ℕ, false, List, [], ◌∷◌, ℤ, length, refl, sym, ap, ◌∙◌, subst, arith, Option, None, Some}
+use Rattle.std.proofs.Common.{◌≡◌, ℕ, false, List, [], ◌∷◌, ℤ, length, refl, sym, ap, ◌∙◌, subst, arith, None, Some}
 use Rattle.evm_cells.specs.Places.{has}
 use Rattle.evm_cells.specs.Limits.{IsCellSet}
 use Rattle.evm_cells.specs.Booleans.{combine, or_cells, and_cells, sub_cells, xor, xor_cells}

@@ -2,6 +2,7 @@
 
 ghost use Rattle.std.specs.Prelude.{◌≡◌, ◌+◌, ◌*◌, ◌<◌, ◌≤◌, ◌↔◌, [], length, true, false, IfOk, IsTrue};
 ghost use Rattle.evm_cells.specs.Vertices.{cells};
+ghost use Rattle.evm_rows.specs.View.{vertices_of};
 ghost use Rattle.evm_model.specs.Figures.{nothing, xor_of, same_figure};
 ghost use Rattle.evm_formulas.specs.Stated.{figure_of};
 ghost use Rattle.evm_formulas.specs.Combined.{combine_of};
@@ -9,7 +10,7 @@ ghost use Rattle.evm_formulas.specs.Steps.{pair_cuts};
 ghost use Rattle.evm_steps.specs.Cuts.{cuts_of};
 
 use evm_boolean::Op2;
-use evm_rows::{NoMemory, Solid};
+use evm_rows::{NoMemory, Rows, Solid};
 use evm_steps::{Steps, pass_slabs};
 use evm_tiles::Tiles;
 use std::alloc::Global;
@@ -72,8 +73,19 @@ pub fn changed(alloc: Global, own: &Tiles, delta: &Solid) -> Result<Tiles, NoMem
     Ok(made)
 }
 
+// Counts a step for each height at which a solid changes. A solid of dimension 1 has no sections to combine.
+fn pass<L: Ledger>(a: Rows<'_>, steps: &mut Steps<L>)
+    ensures few { steps.new ≤ steps.old + length (cuts_of (vertices_of a.entry)) }
+    ensures more { steps.old ≤ steps.new }
+{
+    if 1 < a.dim() {
+        pass_slabs(a, steps);
+    }
+}
+
 /// A Boolean of two solids, made anew: where it is the exclusive or, by one merge of their rows. Takes memory for the rows of both,
-/// and for the answer. Each height at which one of the two changes counts as a step, however space is cut; a merge counts none.
+/// and for the answer. Each height at which one of the two changes counts as a step, however space is cut; a merge counts none, and
+/// neither do solids of dimension 1.
 pub fn combine<L: Ledger>(
     alloc: Global,
     op: Op2,
@@ -96,15 +108,16 @@ pub fn combine<L: Ledger>(
     match op {
         Op2::Xor => exclusive_or(alloc, &left, &right),
         _ => {
-            pass_slabs(left.rows(), steps);
-            pass_slabs(right.rows(), steps);
+            pass(left.rows(), steps);
+            pass(right.rows(), steps);
             let made = evm_cutting::combine(alloc, op, left.rows(), right.rows())?;
             Ok(made)
         }
     }
 }
 
-/// The change of a Boolean whose operands change by `da` and `db`, looked for near the two.
+/// The change of a Boolean whose operands change by `da` and `db`, looked for near the two. It counts at most 6 steps, and 6 more for
+/// each height between the two changes at which an operand changes, before or after.
 pub fn change<L: Ledger>(
     alloc: Global,
     op: Op2,

@@ -1,13 +1,15 @@
-use Rattle.std.proofs.Common.{◌≡◌, ◌∙◌, refl}
+use Rattle.std.proofs.Common.{◌≡◌, ap, ◌∙◌, refl}
 use Rattle.evm_cells.specs.Booleans.{xor_cells}
 use Rattle.evm_rows.specs.Rows.{Vertices, cells_of}
 use Rattle.evm_rows.specs.View.{vertices_of}
 use Rattle.evm_delta.specs.Shapes.{op1_dim, in_range, changed_cells, shape_before, shape_after}
+use Rattle.evm_delta.specs.Steps.{shape_cuts}
 use Rattle.evm_delta.proofs.Deltas.{from_both}
 use Rattle.evm_model.specs.Figures.{xor_of}
 use Rattle.evm_formulas.specs.Stated.{figure_of}
 use Rattle.evm_formulas.specs.Operations.{shape_of, shape_stays}
 use Rattle.evm_formulas.proofs.ShapeValues.{stays_made, stays_after, shape_carries, range_by}
+use Rattle.evm_formulas.proofs.StepLaws.{near_shape, at_most}
 use Rattle.evm_formulas.proofs.shapes.shape_change.Goals as goal
 
 pub delta1-requires-clause-stands : goal.delta1-requires-clause-stands
@@ -27,3 +29,9 @@ returns-clause-range g c =
     let w : Vertices = vertices_of c.rows.result in
     range_by _ (in_range c.args.op.now v.dim (changed_cells v w)) (shape_stays c.args.op.now (xor_of (figure_of c.args.a.now) (figure_of c.args.da.now)))
     (stays_after c.args.op.now c.args.a.now v refl c.args.da.now w c.rows.ensures c.requires.same) c.delta1.ensures.range
+
+pub returns-clause-few : goal.returns-clause-few
+returns-clause-few g c =
+    at_most c.delta1.new.steps c.args.steps.now _ _
+    (ap (shape_cuts c.args.op.now c.args.a.now) c.rows.ensures ∙ near_shape c.args.op.now c.args.a.now c.args.da.now c.requires.same)
+    c.delta1.ensures.few
