@@ -1,4 +1,4 @@
--- The steps that changes of figures count, by those of their vertices.
+-- The bounds of the steps that changes of figures count are those of their vertices.
 use Rattle.std.proofs.Common.{◌≡◌, ℕ, ◌+◌, ◌*◌, ◌≤◌, if◌then◌else◌, List, [], ◌∷◌, ℤ, sym, ap, subst}
 use Rattle.evm_cells.specs.Heights.{cut_count, spanned_cut_count}
 use Rattle.evm_cells.specs.Limits.{IsCellSet}
@@ -19,12 +19,14 @@ change_is : (a da : Vertices) → da.dim ≡ a.dim → change_between (figure_of
 unfolding xor_of
 change_is a da same = carries_over a.dim (cells_of a) (cells_of da) (cell_set-cells a.dim a.rows) (subst (λ (n : ℕ). IsCellSet n (cells_of da)) same (cell_set-cells da.dim da.rows))
 
+-- the cuts near the changes of two operands
 pub near_pair : (a da b db : Vertices) → da.dim ≡ a.dim → db.dim ≡ b.dim
     → near_cuts a da b db ≡ pair_cuts (figure_of a) (xor_of (figure_of a) (figure_of da)) (figure_of b) (xor_of (figure_of b) (figure_of db))
 unfolding xor_of
 near_pair a da b db left right =
     λ i. spanned_cut_count a.dim (cells_of a ∷ changed_cells a da ∷ cells_of b ∷ changed_cells b db ∷ []) (sym (change_is a da left) i ∷ sym (change_is b db right) i ∷ [])
 
+-- the cuts that the change of a shape looks at
 pub near_shape : (op : Op1) (a da : Vertices) → da.dim ≡ a.dim → vertices.shape_cuts op a da ≡ shape_cuts op (figure_of a) (xor_of (figure_of a) (figure_of da))
 unfolding xor_of
 near_shape op a da same =
@@ -33,6 +35,6 @@ near_shape op a da same =
     else spanned_cut_count a.dim (cells_of a ∷ changed_cells a da ∷ []) (D ∷ []))
     (sym (change_is a da same))
 
--- steps that are at most a bound that is another by its right name
+-- steps within a bound are within an equal one
 pub at_most : (new old x y : ℕ) → x ≡ y → new ≤ old + 6 * (1 + x) → new ≤ old + 6 * (1 + y)
 at_most new old x y e h = subst (λ (k : ℕ). new ≤ old + 6 * (1 + k)) e h

@@ -59,7 +59,8 @@ fn delta_or<'a>(change: Option<&'a Change>, own: &Tiles, still: &'a Solid) -> &'
 
 /// How a Boolean changes with its operands, or none where it does not.
 ///
-/// `own` is the Boolean of `a` and `b` before their changes. Where neither operand changes, nothing is looked at.
+/// `own` is the Boolean of `a` and `b` before their changes. Where neither operand changes, nothing is looked at, and no step is
+/// counted; else the steps are those of [`change`].
 pub fn both_changed<L: Ledger>(
     alloc: Global,
     op: Op2,
@@ -110,8 +111,9 @@ pub fn both_changed<L: Ledger>(
 
 /// How a shape changes with its operand, or none where it does not.
 ///
-/// `own` is the shape of `a` before its change. Where the operand does not change, nothing is looked at. It is `Range` exactly
-/// where the shape moves some cell of the changed operand out of the limits.
+/// `own` is the shape of `a` before its change. Where the operand does not change, nothing is looked at, and no step is counted; else
+/// the steps are those of [`shape_change`]. It is `Range` exactly where the shape moves some cell of the changed operand out of the
+/// limits.
 pub fn one_changed<L: Ledger>(
     alloc: Global,
     op: &Op1,

@@ -41,7 +41,8 @@ pub fn shape<L: Ledger>(
 }
 
 /// The change of a shape whose operand changes by `da`. It is `Range` exactly where the shape moves some cell of the changed
-/// operand out of the limits.
+/// operand out of the limits. It counts at most 6 steps, and 6 more for each height in the range of `da` at which the operand, before
+/// or after, changes; the projection along the first axis, which puts all sections together, for each such height anywhere.
 pub fn shape_change<L: Ledger>(
     alloc: Global,
     op: &Op1,

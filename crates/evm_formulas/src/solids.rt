@@ -117,7 +117,7 @@ pub fn combine<L: Ledger>(
 }
 
 /// The change of a Boolean whose operands change by `da` and `db`, looked for near the two. It counts at most 6 steps, and 6 more for
-/// each height between the two changes at which an operand changes, before or after.
+/// each height in the least range that has both changes at which an operand, before or after, changes.
 pub fn change<L: Ledger>(
     alloc: Global,
     op: Op2,
