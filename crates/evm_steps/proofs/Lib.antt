@@ -1,1 +1,2 @@
 pub mod CutCounts
+pub mod Climb
