@@ -25,5 +25,8 @@ fn unites<L: Ledger>(alloc: Global, numbers: &[i32], blank: Blank) -> Option<boo
 #[test]
 fn unites_squares(rt: HostRuntime) {
     let numbers = [0, 0, 0, 2, 1, 2, 1, 3, 2, 0, 2, 1, 3, 1, 3, 3];
-    assert_eq!(rt; unites::<Brand>(rt.alloc(), &numbers, Blank::new(1)), Some(true));
+    assert_eq!(rt;
+        unites::<Brand>(rt.alloc(), &numbers, Blank::new(1)),
+        Some(true)
+    );
 }
