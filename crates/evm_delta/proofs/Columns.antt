@@ -23,36 +23,42 @@ use Rattle.evm_delta.specs.Hulls.{AgreesOver}
 use Rattle.evm_cutting.proofs.HullLaws.{coord-take, is_inside}
 use Rattle.evm_delta.proofs.ShadowLaws.{has-proj}
 
--- the opened box is one round the change as well
-pub opened : (n i : ℕ) (x y : ℤ) (lo hi : List ℤ) (v : Vertices) → v.dim ≡ n → i < n → n ≤ length lo → n ≤ length hi → x ≡ neg_ℤ (pos (limit n)) → y ≡ pos (limit n) → IsVertexList n v.rows → IsAround n lo hi v
-    → IsAround n (slice_set lo i x) (slice_set hi i y) v
-opened n i x y lo hi v d l ll lh ex ey w a = record {
+-- a box round the change whose ends on an axis are put to others that no row is past is one round it as well
+pub set_around : (n i : ℕ) (x y : ℤ) (lo hi : List ℤ) (v : Vertices) → n ≤ length lo → n ≤ length hi → IsLow i x v → IsHigh i y v → IsAround n lo hi v → IsAround n (slice_set lo i x) (slice_set hi i y) v
+set_around n i x y lo hi v ll lh low high a = record {
   low = λ j k. at_low j k (j == i) refl;
   high = λ j k. at_high j k (j == i) refl;
 }
   where
-    coordinate : (j : ℕ) (q : List ℤ) → j < n → is_point n q ≡ true → is_point_coord n (coord j q) ≡ true
-    coordinate j q k m = let (e, b) = point_parts n q m in all-coord (is_point_coord n) j q (omega arith) b
-
     at_low : (j : ℕ) → j < n → (t : Bool) → (j == i) ≡ t → IsLow j (coord j (slice_set lo i x)) v
     at_low j k true e =
-        let s = limit-some n in
-        subst (λ z. IsLow j z v) (sym (get_or-set_at lo i j x (pos 0) (eqb-true j i e) (omega arith)))
-        (record {
-          point = ap (λ (m : ℕ). is_point_coord m x) d ∙ point_yes n x (omega (arith, int_facts)) (omega (arith, int_facts));
-          rows = all_weaker (is_point n) (λ q. int_le x (coord j q)) (λ q m. let (g, h) = point_is n (coord j q) (coordinate j q k m) in le_yes x (coord j q) (omega (arith, int_facts))) v.rows w.points;
-        })
+        subst (λ z. IsLow j z v) (sym (get_or-set_at lo i j x (pos 0) (eqb-true j i e) (let f = eqb-true j i e in omega (arith, f))))
+        (subst (λ (l : ℕ). IsLow l x v) (sym (eqb-true j i e)) low)
     at_low j k false e = subst (λ z. IsLow j z v) (sym (get_or-set_other lo i j x (pos 0) (eqb-false j i e))) (a.low j k)
 
     at_high : (j : ℕ) → j < n → (t : Bool) → (j == i) ≡ t → IsHigh j (coord j (slice_set hi i y)) v
     at_high j k true e =
-        let s = limit-some n in
-        subst (λ z. IsHigh j z v) (sym (get_or-set_at hi i j y (pos 0) (eqb-true j i e) (omega arith)))
-        (record {
-          point = ap (λ (m : ℕ). is_point_coord m y) d ∙ point_yes n y (omega (arith, int_facts)) (omega (arith, int_facts));
-          rows = all_weaker (is_point n) (λ q. int_le (coord j q) y) (λ q m. let (g, h) = point_is n (coord j q) (coordinate j q k m) in le_yes (coord j q) y (omega (arith, int_facts))) v.rows w.points;
-        })
+        subst (λ z. IsHigh j z v) (sym (get_or-set_at hi i j y (pos 0) (eqb-true j i e) (let f = eqb-true j i e in omega (arith, f))))
+        (subst (λ (l : ℕ). IsHigh l y v) (sym (eqb-true j i e)) high)
     at_high j k false e = subst (λ z. IsHigh j z v) (sym (get_or-set_other hi i j y (pos 0) (eqb-false j i e))) (a.high j k)
+
+-- so is the opened box
+pub opened : (n i : ℕ) (x y : ℤ) (lo hi : List ℤ) (v : Vertices) → v.dim ≡ n → i < n → n ≤ length lo → n ≤ length hi → x ≡ neg_ℤ (pos (limit n)) → y ≡ pos (limit n) → IsVertexList n v.rows → IsAround n lo hi v
+    → IsAround n (slice_set lo i x) (slice_set hi i y) v
+opened n i x y lo hi v d l ll lh ex ey w a =
+    let s = limit-some n in
+    set_around n i x y lo hi v ll lh
+    (record {
+      point = ap (λ (m : ℕ). is_point_coord m x) d ∙ point_yes n x (omega (arith, int_facts)) (omega (arith, int_facts));
+      rows = all_weaker (is_point n) (λ q. int_le x (coord i q)) (λ q m. let (g, h) = point_is n (coord i q) (coordinate q m) in le_yes x (coord i q) (omega (arith, int_facts))) v.rows w.points;
+    })
+    (record {
+      point = ap (λ (m : ℕ). is_point_coord m y) d ∙ point_yes n y (omega (arith, int_facts)) (omega (arith, int_facts));
+      rows = all_weaker (is_point n) (λ q. int_le (coord i q) y) (λ q m. let (g, h) = point_is n (coord i q) (coordinate q m) in le_yes (coord i q) y (omega (arith, int_facts))) v.rows w.points;
+    }) a
+  where
+    coordinate : (q : List ℤ) → is_point n q ≡ true → is_point_coord n (coord i q) ≡ true
+    coordinate q m = let (e, b) = point_parts n q m in all-coord (is_point_coord n) i q (omega arith) b
 
 -- each cell over a cell of the projection of the change is in a box round it that is open along the axis
 over_inside : (m i : ℕ) (lo hi : List ℤ) (v : Vertices) (c : List ℤ) (k : ℤ) → v.dim ≡ suc m → i < suc m → suc m ≤ length lo → suc m ≤ length hi → IsVertexList (suc m) v.rows → IsAround (suc m) lo hi v

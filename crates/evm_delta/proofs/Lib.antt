@@ -7,3 +7,7 @@ pub mod Shadows
 pub mod Carried
 pub mod Near
 pub mod Columns
+pub mod HeightLaws
+pub mod NearHeights
+pub mod ChangeHeights
+pub mod ShapeHeights

@@ -1,7 +1,9 @@
 // The change of a shape.
-ghost use Rattle.std.specs.Prelude.{◌≡◌, ◌+◌, ◌*◌, ◌<◌, ◌≤◌, ◌↔◌, true, false, length, IfOk, IsErrOf};
+ghost use Rattle.std.specs.Prelude.{◌≡◌, ◌+◌, ◌-◌, ◌*◌, ◌<◌, ◌≤◌, ◌↔◌, true, false, length, IfOk, IsErrOf};
 ghost use Rattle.evm_rows.specs.Rows.{cells_of};
 ghost use Rattle.evm_rows.specs.View.{vertices_of};
+ghost use Rattle.evm_shapes.specs.Shapes.{projected_cells};
+ghost use Rattle.evm_steps.specs.Cuts.{cuts_of};
 ghost use Rattle.evm_delta.specs.Shapes.{Fits, op1_dim, in_range, changed_cells, shape_change, IsShapeChange, CarriesShape};
 ghost use Rattle.evm_delta.specs.Steps.{shape_cuts};
 
@@ -9,25 +11,53 @@ use crate::hulls::near_columns;
 use crate::shapes::{DeltaError, Op1, shape};
 use evm_rows::{NoMemory, Rows, Solid, xor};
 use evm_shapes::project;
-use evm_steps::Steps;
+use evm_steps::{Steps, pass_slabs};
 use evm_tiles::Tiles;
 use std::alloc::Global;
 use std::sync::ledger::Ledger;
 
+// The projection of what stands near a change. It takes a step for each height at which that changes.
+fn shadow_of<L: Ledger>(
+    alloc: Global,
+    part: Rows<'_>,
+    axis: usize,
+    steps: &mut Steps<L>,
+) -> Result<Solid, NoMemory>
+    requires deep { 2 ≤ (vertices_of part).dim }
+    requires low { 0 < axis }
+    requires high { axis ≤ (vertices_of part).dim }
+    ensures dim { IfOk result (λ s. s.dim ≡ (vertices_of part.entry).dim - 1) }
+    ensures cells { IfOk result (λ s. cells_of s ≡ projected_cells axis (vertices_of part.entry)) }
+    ensures passed { steps.new ≡ steps.old + length (cuts_of (vertices_of part.entry)) }
+{
+    pass_slabs(part, steps);
+    project(alloc, part, axis)
+}
+
 // The change of a projection. A cell of it can change only where some cell of the change stands over it, so only what the
-// tree has in whole columns over the box of the change is looked at.
-fn projection_near(alloc: Global, axis: usize, a: &Tiles, da: Rows<'_>) -> Result<Solid, NoMemory>
+// tree has in whole columns over the box of the change is looked at, before and after.
+fn projection_near<L: Ledger>(
+    alloc: Global,
+    axis: usize,
+    a: &Tiles,
+    da: Rows<'_>,
+    steps: &mut Steps<L>,
+) -> Result<Solid, NoMemory>
     requires same_dim { (vertices_of da).dim ≡ a.now.dim }
     requires some { 0 < length (vertices_of da).rows }
     requires deep { 2 ≤ a.now.dim }
     requires low { 0 < axis }
     requires high { axis ≤ a.now.dim }
-    ensures { IfOk result (λ s. s ≡ shape_change (Op1.Proj axis) a.now (vertices_of da.entry)) }
+    ensures part { IfOk result
+        (λ s. s ≡ shape_change (Op1.Proj axis) a.now (vertices_of da.entry)) }
+    ensures few { steps.new
+        ≤ steps.old + 2 * shape_cuts (Op1.Proj axis) a.now (vertices_of da.entry) }
+    ensures more { steps.old ≤ steps.new }
 {
     let before = near_columns(alloc, a, da, axis)?;
     let after = xor(alloc, before.rows(), da)?;
-    let old_shadow = project(alloc, before.rows(), axis)?;
-    let new_shadow = project(alloc, after.rows(), axis)?;
+    let old_shadow = shadow_of(alloc, before.rows(), axis, steps)?;
+    let new_shadow = shadow_of(alloc, after.rows(), axis, steps)?;
     let made = xor(alloc, old_shadow.rows(), new_shadow.rows())?;
     Ok(made)
 }
@@ -83,7 +113,7 @@ pub fn delta1<L: Ledger>(
         return Ok(Solid::empty(alloc, dim_of(op, da.dim())));
     }
     match op {
-        Op1::Proj(axis) => Ok(projection_near(alloc, *axis, a, da)?),
+        Op1::Proj(axis) => Ok(projection_near(alloc, *axis, a, da, steps)?),
         _ => shape(alloc, op, da),
     }
 }

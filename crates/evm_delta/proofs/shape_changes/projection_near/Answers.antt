@@ -1,14 +1,15 @@
-use Rattle.std.proofs.Common.{◌-◌, ℕ, ℤ, List, sym, subst}
+use Rattle.std.proofs.Common.{◌-◌, ℕ, ℤ, List, refl, arith, sym, subst}
 use Rattle.evm_cells.specs.Booleans.{xor_cells}
 use Rattle.evm_cells.specs.Shapes.{proj}
 use Rattle.evm_cells.specs.Vertices.{cells}
 use Rattle.evm_rows.specs.Rows.{Vertices}
 use Rattle.evm_rows.specs.View.{vertices_of}
 use Rattle.evm_delta.proofs.Shadows.{Shows, own_cells, shows_proj, shows_xor, shadow_is}
+use Rattle.evm_delta.proofs.ShapeHeights.{shadow_steps, shadow_steps_after}
 use Rattle.evm_delta.proofs.shape_changes.projection_near.Goals as goal
 
-pub returns : goal.returns
-returns c =
+pub returns-clause-part : goal.returns-clause-part
+returns-clause-part g c =
     let a : Vertices = c.args.a.now in
     let da : Vertices = vertices_of c.args.da in
     let n : ℕ = a.dim in
@@ -30,3 +31,40 @@ returns c =
     shadow_is c.args.axis a da b o w c.in_ok-made.made c.requires.same_dim c.in_ok-before.ensures.dim c.requires.low c.requires.high c.in_ok-before.ensures.agrees
     (subst (λ (v : Vertices). Shows (n - 1) (proj (n - 1) i R) v) (sym c.rows-4.ensures) old) (subst (λ (v : Vertices). Shows (n - 1) (proj (n - 1) i RD) v) (sym c.rows-5.ensures) new)
     c.in_ok-made.ensures.dim c.in_ok-made.ensures.rows
+
+pub returns-in_err-old_shadow-clause-few : goal.returns-in_err-old_shadow-clause-few
+returns-in_err-old_shadow-clause-few g c =
+    let deep = c.requires.deep in
+    let p = shadow_steps c.args.a.now.dim c.args.axis c.args.steps.now c.shadow_of.new.steps c.args.a.now (vertices_of c.args.da) c.in_ok-before.before (vertices_of c.rows-2.result) (omega (arith, deep)) c.requires.low refl c.requires.same_dim
+    c.in_ok-before.ensures.dim c.in_ok-before.ensures.cuts c.rows-2.ensures c.shadow_of.ensures.passed in
+    omega (arith, p)
+
+pub returns-in_err-new_shadow-clause-few : goal.returns-in_err-new_shadow-clause-few
+returns-in_err-new_shadow-clause-few g c =
+    let deep = c.requires.deep in
+    let p = shadow_steps c.args.a.now.dim c.args.axis c.args.steps.now c.shadow_of.new.steps c.args.a.now (vertices_of c.args.da) c.in_ok-before.before (vertices_of c.rows-2.result) (omega (arith, deep)) c.requires.low refl c.requires.same_dim
+    c.in_ok-before.ensures.dim c.in_ok-before.ensures.cuts c.rows-2.ensures c.shadow_of.ensures.passed in
+    let q = shadow_steps_after c.args.a.now.dim c.args.axis c.shadow_of.new.steps c.shadow_of-2.new.steps c.args.a.now (vertices_of c.args.da) c.in_ok-before.before (vertices_of c.rows.result) c.in_ok-after.after (vertices_of c.rows-3.result)
+    (omega (arith, deep)) c.requires.low refl c.requires.same_dim c.in_ok-before.ensures.dim c.in_ok-before.ensures.cuts c.rows.ensures
+    c.in_ok-after.ensures.dim c.in_ok-after.ensures.cells c.rows-3.ensures c.shadow_of-2.ensures.passed in
+    omega (arith, p, q)
+
+pub returns-in_err-made-clause-few : goal.returns-in_err-made-clause-few
+returns-in_err-made-clause-few g c =
+    let deep = c.requires.deep in
+    let p = shadow_steps c.args.a.now.dim c.args.axis c.args.steps.now c.shadow_of.new.steps c.args.a.now (vertices_of c.args.da) c.in_ok-before.before (vertices_of c.rows-2.result) (omega (arith, deep)) c.requires.low refl c.requires.same_dim
+    c.in_ok-before.ensures.dim c.in_ok-before.ensures.cuts c.rows-2.ensures c.shadow_of.ensures.passed in
+    let q = shadow_steps_after c.args.a.now.dim c.args.axis c.shadow_of.new.steps c.shadow_of-2.new.steps c.args.a.now (vertices_of c.args.da) c.in_ok-before.before (vertices_of c.rows.result) c.in_ok-after.after (vertices_of c.rows-3.result)
+    (omega (arith, deep)) c.requires.low refl c.requires.same_dim c.in_ok-before.ensures.dim c.in_ok-before.ensures.cuts c.rows.ensures
+    c.in_ok-after.ensures.dim c.in_ok-after.ensures.cells c.rows-3.ensures c.shadow_of-2.ensures.passed in
+    omega (arith, p, q)
+
+pub returns-clause-few : goal.returns-clause-few
+returns-clause-few g c =
+    let deep = c.requires.deep in
+    let p = shadow_steps c.args.a.now.dim c.args.axis c.args.steps.now c.shadow_of.new.steps c.args.a.now (vertices_of c.args.da) c.in_ok-before.before (vertices_of c.rows-2.result) (omega (arith, deep)) c.requires.low refl c.requires.same_dim
+    c.in_ok-before.ensures.dim c.in_ok-before.ensures.cuts c.rows-2.ensures c.shadow_of.ensures.passed in
+    let q = shadow_steps_after c.args.a.now.dim c.args.axis c.shadow_of.new.steps c.shadow_of-2.new.steps c.args.a.now (vertices_of c.args.da) c.in_ok-before.before (vertices_of c.rows.result) c.in_ok-after.after (vertices_of c.rows-3.result)
+    (omega (arith, deep)) c.requires.low refl c.requires.same_dim c.in_ok-before.ensures.dim c.in_ok-before.ensures.cuts c.rows.ensures
+    c.in_ok-after.ensures.dim c.in_ok-after.ensures.cells c.rows-3.ensures c.shadow_of-2.ensures.passed in
+    omega (arith, p, q)
