@@ -1,5 +1,5 @@
 -- Heights at which cell sets change, and how many there are. The cell sets have dimension m + 1.
-use Rattle.std.proofs.Common.{◌≡◌, ℕ, zero, suc, ◌+◌, ◌<◌, ◌≤◌, ◌⊎◌, inl, inr, Bool, true, false, not, cond, ◌&&◌, ◌||◌, List, [], ◌∷◌, ◌++◌, length, map, filter, take, get_or, ℤ, pos, neg_ℤ, ◌-ℤ◌, ◌+ℤ◌, ◌<ℤ◌, ◌≤ℤ◌, int_le, int_lt, int_eq, refl, sym, ap, ap₂, ◌∙◌, arith, subst, ⊎_elim}
+use Rattle.std.proofs.Common.{◌≡◌, ℕ, zero, suc, ◌+◌, ◌<◌, ◌≤◌, ◌⊎◌, inl, inr, Bool, true, false, not, cond, ◌&&◌, ◌||◌, List, [], ◌∷◌, ◌++◌, length, map, filter, get_or, ℤ, pos, neg_ℤ, ◌-ℤ◌, ◌<ℤ◌, ◌≤ℤ◌, int_le, int_lt, int_eq, refl, sym, ap, ap₂, ◌∙◌, arith, ⊎_elim}
 use Rattle.std.specs.List.{list_any, list_all}
 use Rattle.std.proofs.lemmas.Bool.{true≢false, false≢true, or_cases, or_left, or_right}
 use Rattle.std.proofs.lemmas.Int.{ints as int_facts}
@@ -8,10 +8,10 @@ use Rattle.evm_cells.specs.Limits.{limit, point_coords, is_point, is_point_coord
 use Rattle.evm_cells.specs.Booleans.{xor, xor_cells}
 use Rattle.evm_cells.specs.Sections.{slice, couplet, cuts, rows_at}
 use Rattle.evm_cells.specs.Shapes.{clip}
-use Rattle.evm_cells.specs.Vertices.{evm, cells, IsVertexList}
+use Rattle.evm_cells.specs.Vertices.{cells, IsVertexList}
 use Rattle.evm_cells.proofs.Xor.{and_first, and_second, and_both, and-false}
 use Rattle.evm_cells.proofs.Order.{refuted, any-filter}
-use Rattle.evm_cells.proofs.Coords.{strict_ints, eq_is, eq_yes, le_is, le_yes, le_no, lt_is, lt_yes, lt_no, any-point_coords, point_yes, point_is, cell_is, limit-some}
+use Rattle.evm_cells.proofs.Coords.{strict_ints, eq_is, eq_yes, le_yes, le_no, lt_is, lt_yes, lt_no, any-point_coords, point_yes, cell_is}
 use Rattle.evm_cells.proofs.Places.{has-any}
 use Rattle.evm_cells.proofs.Universe.{same_sets, point_parts, cell_set-cells}
 use Rattle.evm_cells.proofs.Booleans.{xor_undone}

@@ -1,15 +1,12 @@
 -- What an operand has at the cells of a change is enough for the change of a Boolean.
-use Rattle.std.proofs.Common.{◌≡◌, ℕ, Bool, true, false, ◌&&◌, List, [], ℤ, int_le, int_lt, refl, sym, ap, ◌∙◌}
-use Rattle.evm_cells.specs.Places.{has, each}
-use Rattle.evm_cells.specs.Limits.{is_cell, IsCellSet}
+use Rattle.std.proofs.Common.{◌≡◌, ℕ, Bool, true, false, ◌&&◌, List, [], ℤ, refl, sym, ap, ◌∙◌}
+use Rattle.evm_cells.specs.Places.{has}
+use Rattle.evm_cells.specs.Limits.{IsCellSet}
 use Rattle.evm_cells.specs.Booleans.{xor, combine, xor_cells}
-use Rattle.evm_cells.specs.Shapes.{clip}
 use Rattle.evm_cells.specs.Vertices.{evm, cells}
-use Rattle.evm_cells.proofs.Xor.{and-true}
 use Rattle.evm_cells.proofs.Universe.{same_sets, cell_set-cells}
 use Rattle.evm_cells.proofs.Booleans.{has-combine_of}
 use Rattle.evm_cells.proofs.Combine.{cell_set-combine, has-xor_cells}
-use Rattle.evm_cells.proofs.Insides.{has-clip_of}
 use Rattle.evm_cells.proofs.Layers.{cells-empty, evm-empty}
 use Rattle.evm_cells.proofs.Core.{cells-evm}
 use Rattle.evm_cells.proofs.Combine.{cell_set-xor}

@@ -1,12 +1,10 @@
 -- A window changes only where the change that it is taken for does, or where the tree does.
-use Rattle.std.proofs.Common.{◌≡◌, ℕ, zero, suc, ◌+◌, ◌-◌, ◌<◌, ◌≤◌, ◌⊎◌, inl, inr, Bool, true, not, List, [], ◌∷◌, length, take, get_or, slice_set, ℤ, pos, neg_ℤ, ◌<ℤ◌, refl, sym, ap, ap₂, ◌∙◌, arith, subst, ⊎_elim}
+use Rattle.std.proofs.Common.{◌≡◌, ℕ, zero, suc, ◌+◌, ◌-◌, ◌<◌, ◌≤◌, inl, inr, true, List, [], ◌∷◌, length, take, get_or, slice_set, ℤ, pos, neg_ℤ, ◌<ℤ◌, refl, sym, ap, ◌∙◌, arith, subst, ⊎_elim}
 use Rattle.std.proofs.lemmas.Int.{ints as int_facts}
-use Rattle.evm_cells.specs.Places.{is_empty}
 use Rattle.evm_cells.specs.Heights.{is_cut, is_spanned}
-use Rattle.evm_cells.specs.Limits.{limit, is_point, is_point_coord, IsCellSet}
+use Rattle.evm_cells.specs.Limits.{limit, is_point, is_point_coord}
 use Rattle.std.proofs.lemmas.Grind.{get_or-set_at}
 use Rattle.std.proofs.lemmas.List.{get_or-set_other, length-set}
-use Rattle.evm_cells.specs.Sections.{couplet}
 use Rattle.evm_cells.specs.Shapes.{clip}
 use Rattle.evm_cells.specs.Vertices.{cells, IsVertexList}
 use Rattle.evm_cells.proofs.Slices.{coord}
@@ -71,9 +69,11 @@ near_cuts_are (suc m) (l ∷ lo) (u ∷ hi) d t s o ed et es ll lh a b e h p =
     (λ z. inl (⊎_elim (λ (x : h ≡ l). ap (is_cut d.dim (cells_of d)) x ∙ a) (λ (x : h ≡ u). ap (is_cut d.dim (cells_of d)) x ∙ b) z))
     (λ z. let above : l <ℤ h = z.1 in
     let under : h <ℤ u = z.2 in
-    inr (cut_is m t h et ∙ z.0,
-    span_is m d h ed
-    ∙ between_cuts m D l u h (cell_set-cells n d.rows) (sym (cut_is m d l ed) ∙ a) (sym (cut_is m d u ed) ∙ b) (omega (arith, int_facts)) (omega (arith, int_facts))))
+    inr (
+      cut_is m t h et ∙ z.0,
+      span_is m d h ed
+          ∙ between_cuts m D l u h (cell_set-cells n d.rows) (sym (cut_is m d l ed) ∙ a) (sym (cut_is m d u ed) ∙ b) (omega (arith, int_facts)) (omega (arith, int_facts)),
+    ))
     (window_changes m l u h (take m lo) (take m hi) T (cell_set-cells n t.rows) (sym (cut_of m s C h es e) ∙ p))
 
 -- of a window that is open along the first axis
@@ -95,9 +95,12 @@ pub column_cuts_are : (n i : ℕ) (x y : ℤ) (lo hi : List ℤ) (d t s : Vertic
     → is_cut d.dim (cells_of d) (coord 0 lo) ≡ true → is_cut d.dim (cells_of d) (coord 0 hi) ≡ true
     → cells_of s ≡ clip n (take n (slice_set lo i x)) (take n (slice_set hi i y)) (cells n t.rows) → HasColumnCuts i d t s
 column_cuts_are n zero x y lo hi d t s o ed et es ll lh ex ey a b e h p =
-    inr (open_cuts_are n (slice_set lo 0 x) (slice_set hi 0 y) d t s o et es
-    (let k = length-set lo 0 x in omega (arith, k)) (let k = length-set hi 0 y in omega (arith, k))
-    (get_or-set_at lo 0 0 x (pos 0) refl (omega arith) ∙ ex) (get_or-set_at hi 0 0 y (pos 0) refl (omega arith) ∙ ey) e h p, λ z. absurd (omega arith))
+    inr (
+      open_cuts_are n (slice_set lo 0 x) (slice_set hi 0 y) d t s o et es
+          (let k = length-set lo 0 x in omega (arith, k)) (let k = length-set hi 0 y in omega (arith, k))
+          (get_or-set_at lo 0 0 x (pos 0) refl (omega arith) ∙ ex) (get_or-set_at hi 0 0 y (pos 0) refl (omega arith) ∙ ey) e h p,
+      λ z. absurd (omega arith),
+    )
 column_cuts_are n (suc i) x y lo hi d t s o ed et es ll lh ex ey a b e h p =
     let f : coord 0 (slice_set lo (suc i) x) ≡ coord 0 lo = get_or-set_other lo (suc i) 0 x (pos 0) (λ z. omega (arith, z)) in
     let g : coord 0 (slice_set hi (suc i) y) ≡ coord 0 hi = get_or-set_other hi (suc i) 0 y (pos 0) (λ z. omega (arith, z)) in

@@ -1,8 +1,8 @@
 -- What a projection looks at near a change changes only where the operand does, before or after; and in the range of the change
 -- too, where the projection is not along the first axis.
-use Rattle.std.proofs.Common.{◌≡◌, ℕ, zero, suc, ◌+◌, ◌*◌, ◌-◌, ◌<◌, ◌≤◌, Bool, true, false, ◌&&◌, ◌==◌, if◌then◌else◌, List, [], ◌∷◌, length, filter, ℤ, refl, sym, ap, ◌∙◌, arith, ⊎_elim}
+use Rattle.std.proofs.Common.{◌≡◌, ℕ, zero, suc, ◌+◌, ◌-◌, ◌<◌, ◌≤◌, Bool, true, false, ◌&&◌, ◌==◌, if◌then◌else◌, List, [], ◌∷◌, length, filter, ℤ, refl, sym, ap, ◌∙◌, arith, ⊎_elim}
 use Rattle.std.specs.List.{list_any}
-use Rattle.std.proofs.lemmas.Bool.{eqb-false, false≢true}
+use Rattle.std.proofs.lemmas.Bool.{eqb-false}
 use Rattle.evm_cells.specs.Booleans.{xor_cells}
 use Rattle.evm_cells.specs.Heights.{cut_count, spanned_cut_count}
 use Rattle.evm_cells.specs.Limits.{point_coords, IsCellSet}

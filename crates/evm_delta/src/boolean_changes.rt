@@ -78,6 +78,9 @@ fn right_near<L: Ledger>(
 /// change is looked at, and of none for `Xor`. Takes memory for the two windows, for the two changes that are cut down, and
 /// for the right window after the change.
 ///
+/// A step is one combination of two sections. Each of the two changes is cut down by a window section by section, with a step
+/// for each height at which one of them changes; `Xor`, and the merges of rows, take none.
+///
 /// # Errors
 ///
 /// `NoMemory` where memory lacks; the trees stay as they are.

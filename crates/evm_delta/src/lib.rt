@@ -5,6 +5,11 @@
 //! other operand: where the operands change little, it is small. A shape but the projection carries the operand's change
 //! over; the change of a projection is looked for only where the operand's change stands. Operands are trees of tiles.
 //! (This project's own.)
+//!
+//! Steps are counted: a Boolean of a change and a window takes one for each height of the first axis at which one of them
+//! changes, and a projection one for each height at which what it projects does. So a change takes few where few heights are
+//! near: those at which an operand changes, before or after, in the range of the heights at which the changes do. Along the
+//! first axis a projection puts all sections together, and there all heights count.
 #![tactic(auto)]
 
 mod boolean_changes;

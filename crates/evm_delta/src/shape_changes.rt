@@ -82,6 +82,9 @@ fn dim_of(op: &Op1, dim: usize) -> usize
 /// the window of the tree at the least box of the change, opened along the axis, is projected before and after. Where
 /// nothing changes, nothing is done. Takes the memory of the calls of that shape, for a projection twice and for its window.
 ///
+/// A projection counts a step for each height at which what it projects changes, once before and once after the change. The
+/// other shapes count none.
+///
 /// # Errors
 ///
 /// `Range` exactly where a shift or a lift takes some cell of `a xor da` past the limits. `NoMemory` where there is none.

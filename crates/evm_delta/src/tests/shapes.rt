@@ -1,12 +1,36 @@
-ghost use Rattle.std.specs.Prelude.{◌≡◌};
-ghost use Rattle.evm_delta.specs.Shapes.{Fits};
+ghost use Rattle.std.specs.Prelude.{◌≡◌, ◌<◌, true};
+ghost use Rattle.evm_rows.specs.Rows.{cells_of};
+ghost use Rattle.evm_rows.specs.View.{vertices_of};
+ghost use Rattle.evm_delta.specs.Shapes.{Fits, in_range};
 
 use super::has_rows;
 use crate::{DeltaError, Op1, delta1, shape};
-use evm_rows::Solid;
+use evm_rows::{Rows, Solid};
 use evm_script::Nums;
+use evm_steps::Steps;
 use evm_tiles::Tiles;
 use std::alloc::Global;
+use std::marker::Brand;
+use std::sync::ledger::{Blank, Ledger};
+
+// The change of a shape, with a counter of its own.
+fn counted<L: Ledger>(
+    alloc: Global,
+    op: &Op1,
+    tree: &Tiles,
+    da: Rows<'_>,
+    blank: Blank,
+) -> Result<Solid, DeltaError>
+    requires same_dim { (vertices_of da).dim ≡ tree.now.dim }
+    requires fits { Fits op.now tree.now.dim }
+    requires stands { in_range op.now tree.now.dim (cells_of tree.now) ≡ true }
+    requires name { blank.name ≡ L.name }
+    requires parts { blank.parts ≡ L.parts }
+    requires some { 0 < L.parts }
+{
+    let mut steps = Steps::<L>::start(blank);
+    delta1(alloc, op, tree, da, &mut steps)
+}
 
 // The shape of the cells (0, 0) and (1, 0), and its change where they become (0, 0) and (2, 0).
 fn change(alloc: Global, op: &Op1) -> Result<(Solid, Solid), DeltaError>
@@ -20,7 +44,7 @@ fn change(alloc: Global, op: &Op1) -> Result<(Solid, Solid), DeltaError>
     };
     let before = shape(alloc, op, a.rows())?;
     let tree = Tiles::from_rows(alloc, a.rows())?;
-    let change = delta1(alloc, op, &tree, da.rows())?;
+    let change = counted::<Brand>(alloc, op, &tree, da.rows(), Blank::new(1))?;
     Ok((before, change))
 }
 
@@ -75,7 +99,7 @@ fn risen(alloc: Global, prism: &Op1, base: &Solid) -> Result<Solid, DeltaError>
     let none = Solid::empty(alloc, 3);
     let _before = shape(alloc, prism, none.rows())?;
     let tree = Tiles::from_rows(alloc, none.rows())?;
-    delta1(alloc, prism, &tree, base.rows())
+    counted::<Brand>(alloc, prism, &tree, base.rows(), Blank::new(1))
 }
 
 // A prism in four dimensions, over a base up to the limit of these and past it.

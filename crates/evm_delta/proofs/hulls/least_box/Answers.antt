@@ -1,9 +1,7 @@
-use Rattle.std.proofs.Common.{◌≡◌, ◌-◌, ◌+◌, ◌≤◌, ◌<◌, ℕ, ℤ, List, [], length, get_or, slice_set, pos, refl, sym, ap, ◌∙◌, arith, rules, w32, SFits, to_z, of_z}
+use Rattle.std.proofs.Common.{◌-◌, ℕ, ℤ, get_or, slice_set, pos, refl, sym, ◌∙◌, arith, rules, w32, SFits, to_z, of_z}
 use Rattle.std.proofs.lemmas.Int.{to_z-of_z}
 use Rattle.std.proofs.lemmas.List.{get_or-set_same}
-use Rattle.evm_cells.specs.Heights.{is_cut}
-use Rattle.evm_cells.proofs.Slices.{coord}
-use Rattle.evm_rows.specs.Rows.{Vertices, cells_of}
+use Rattle.evm_rows.specs.Rows.{Vertices}
 use Rattle.evm_rows.specs.View.{vertices_of}
 use Rattle.evm_delta.proofs.NearHeights.{end_is_cut, ends_around}
 use Rattle.evm_delta.proofs.hulls.least_box.Goals as goal
