@@ -1,4 +1,7 @@
 pub mod Planes
+pub mod Lowered
+pub mod Closed
+pub mod Leveled
 pub mod Sided
 pub mod Combined
 pub mod FaceCounts

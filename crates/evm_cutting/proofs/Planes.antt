@@ -171,7 +171,7 @@ over_clip n i x y at xs ys S f s =
 abbrev pub six : ℤ → List ℤ
 six x = x ∷ x ∷ x ∷ x ∷ x ∷ x ∷ []
 
-six_equal : (x : ℤ) → list_all (int_eq x) (six x) ≡ true
+pub six_equal : (x : ℤ) → list_all (int_eq x) (six x) ≡ true
 six_equal x =
     let e : int_eq x x ≡ true = eq_yes x x refl in
     and_both (int_eq x x) (list_all (int_eq x) (x ∷ x ∷ x ∷ x ∷ x ∷ [])) e

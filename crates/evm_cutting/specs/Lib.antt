@@ -1,4 +1,5 @@
 pub mod Cuts
+pub mod Levels
 pub mod Seams
 pub mod Splits
 pub mod Booleans

@@ -8,6 +8,7 @@ mod booleans;
 mod dense;
 mod halves;
 mod hulls;
+mod levels;
 mod measures;
 mod middles;
 mod seams;

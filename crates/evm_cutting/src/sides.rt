@@ -6,6 +6,7 @@ ghost use Rattle.evm_rows.specs.Rows.{cells_of};
 ghost use Rattle.evm_rows.specs.View.{vertices_of};
 ghost use Rattle.evm_cutting.specs.Cuts.{cells_under, cells_over};
 
+use crate::levels::below;
 use evm_rows::{DIM_MAX, NoMemory, Rows, Solid, limit};
 use evm_shapes::clip;
 use std::alloc::Global;
@@ -20,6 +21,9 @@ pub fn under(alloc: Global, a: Rows<'_>, axis: usize, at: i32) -> Result<Solid, 
     ensures cells { IfOk result (λ s. cells_of s ≡ cells_under axis at (vertices_of a.entry)) }
 {
     let dim = a.dim();
+    if a.skip == 0 && (axis == 0 || axis + 1 == dim) {
+        return below(alloc, a, axis, at);
+    }
     let limit = limit(dim);
     let lo = [-limit; DIM_MAX];
     let mut hi = [limit; DIM_MAX];

@@ -1,0 +1,248 @@
+-- The cut of rows at a height, in flat numbers.
+use Rattle.std.proofs.Common.{◌≡◌, ℕ, zero, suc, ◌+◌, ◌-◌, ◌/◌, ◌%◌, ◌<◌, ◌≤◌, ◌⊎◌, Bool, true, false, not, ◌&&◌, ◌||◌, ◌==◌, List, [], ◌∷◌, ◌++◌, length, take, drop, map, filter, count_by, ℤ, inl, inr, refl, sym, ap, ap₂, ◌∙◌, subst, arith, append_assoc, append-nil, eq-eqb, eqb-true, ⊎_elim, take-add}
+use Rattle.std.specs.List.{list_all}
+use Rattle.std.proofs.lemmas.Bool.{ne_eqb}
+use Rattle.std.proofs.lemmas.List.{length-take-le, drop_all}
+use native.Mathlib.Nat.{mul-mod_left}
+use Rattle.evm_cells.specs.Booleans.{xor}
+use Rattle.evm_cells.specs.Limits.{IsCellSet}
+use Rattle.evm_cells.specs.Places.{same, has, ascending}
+use Rattle.evm_cells.specs.Vertices.{odd, evm, cells, IsVertexList}
+use Rattle.evm_cells.specs.Windows.{is_under, is_over, IsReduced}
+use Rattle.evm_cells.proofs.Lists.{all-append}
+use Rattle.evm_cells.proofs.Sides.{cell_set-part}
+use Rattle.evm_cells.proofs.Universe.{same_sym, cell_set-cells}
+use Rattle.evm_cells.proofs.Xor.{xsum, xsum-cons, xsum-nil, odd-zero, odd-more, and-true, and-false, and_both, and_first, and_second}
+use Rattle.evm_rows.specs.Rows.{rows_of, flat_of, AreRows}
+use Rattle.evm_rows.specs.Groups.{IsOddPart, IsFrontGroup, head_of}
+use Rattle.evm_rows.proofs.BoxTests.{flat_of-append}
+use Rattle.evm_rows.proofs.FirstRows.{asc_none}
+use Rattle.evm_rows.proofs.Lines.{rows_of-append, rows_of-single, rows_of-skip, rows_parted}
+use Rattle.evm_rows.proofs.Pairs.{count_of}
+use Rattle.evm_rows.proofs.RowsLaws.{rows_of-nil, rows_of-cons, whole-first}
+use Rattle.evm_rows.proofs.RowsOrder.{Wide, rows_of-wide, rows_of-flat_of, length-flat_of}
+use Rattle.evm_rows.proofs.RowsPlaces.{length-rows_of, quotient}
+use Rattle.evm_rows.proofs.Solids.{flat_of-rows_of}
+use Rattle.evm_shapes.proofs.Shaped.{are_rows_of, cells_of}
+use Rattle.evm_cutting.specs.Cuts.{IsBetween}
+use Rattle.evm_cutting.specs.Levels.{lowered, put, starts_over, IsParted, IsClosed, IsCut}
+use Rattle.evm_cutting.proofs.Lowered.{below_rows}
+use Rattle.evm_cutting.proofs.Closed.{IsCutSoFar, IsLowered, group_is, group_lowered, cut_more}
+
+to_wide : (n : ℕ) (S : List (List ℤ)) → Wide n S → list_all (λ p. length p == n) S ≡ true
+to_wide n [] w = refl
+to_wide n (p ∷ S) w = and_both (length p == n) (list_all (λ q. length q == n) S) (eq-eqb (length p) n w.0) (to_wide n S w.1)
+
+from_wide : (n : ℕ) (S : List (List ℤ)) → list_all (λ p. length p == n) S ≡ true → Wide n S
+from_wide n [] h = tt
+from_wide n (p ∷ S) h = (eqb-true (length p) n (and_first (length p == n) (list_all (λ q. length q == n) S) h), from_wide n S (and_second (length p == n) (list_all (λ q. length q == n) S) h))
+
+-- ---- the rows below the height
+
+pub low_start : (i w : ℕ) (at : ℤ) (flat : List ℤ) → list_all (is_under i at) (rows_of (take 0 flat) w 0) ≡ true
+low_start i w at flat = ap (list_all (is_under i at)) (rows_of-nil w 0)
+
+pub low_more : (i w n : ℕ) (at : ℤ) (flat later row : List ℤ) → n + length later ≡ length flat → 0 < w → n % w ≡ 0 → 0 < length later → length later % w ≡ 0 → later ≡ drop n flat → row ≡ take w later → is_under i at row ≡ true
+    → list_all (is_under i at) (rows_of (take n flat) w 0) ≡ true → list_all (is_under i at) (rows_of (take (n + w) flat) w 0) ≡ true
+low_more i w n at flat later row counted wide steps some whole place r under so_far =
+    let t : List ℤ → Bool = is_under i at in
+    let front : length (take n flat) % w ≡ 0 = ap (λ (k : ℕ). k % w) (length-take-le n flat (omega arith)) ∙ steps in
+    let long : length (take w later) ≡ w = length-take-le w later (whole-first (length later) w some whole) in
+    let joined : take (n + w) flat ≡ take n flat ++ take w later = take-add n w flat ∙ ap (λ zs. take n flat ++ take w zs) (sym place) in
+    ap (list_all t) (ap (λ zs. rows_of zs w 0) joined ∙ rows_of-append (take n flat) (take w later) w 0 wide front ∙ ap (λ rs. rows_of (take n flat) w 0 ++ rs) (rows_of-single (take w later) w 0 wide long))
+    ∙ all-append t (rows_of (take n flat) w 0) (take w later ∷ [])
+    ∙ and_both (list_all t (rows_of (take n flat) w 0)) (t (take w later) && true) so_far (and_both (t (take w later)) true (ap t (sym r) ∙ under) refl)
+
+pub low_done : (i w n : ℕ) (at : ℤ) (flat low later : List ℤ) → n + length later ≡ length flat → 0 < w → n % w ≡ 0 → low ≡ take n flat → later ≡ drop n flat → list_all (is_under i at) (rows_of (take n flat) w 0) ≡ true
+    → (rows_of later w 0 ≡ []) ⊎ ((row : List ℤ) × (rest : List (List ℤ)) × (rows_of later w 0 ≡ row ∷ rest) × (is_over i at row ≡ true))
+    → IsParted i at (rows_of flat w 0) (rows_of low w 0) (rows_of later w 0)
+low_done i w n at flat low later counted wide steps e place u end = record {
+  both = rows_parted flat later w 0 n wide steps (omega arith) place ∙ ap (λ zs. rows_of zs w 0 ++ rows_of later w 0) (sym e);
+  low = ap (λ zs. list_all (is_under i at) (rows_of zs w 0)) e ∙ u;
+  high = ⊎_elim (λ k. ap (starts_over i at) k) (λ v. let (row, rest, k, o) = v in ap (starts_over i at) k ∙ o) end;
+}
+
+pub low_whole : (w n : ℕ) (flat low : List ℤ) → n ≤ length flat → n % w ≡ 0 → low ≡ take n flat → length low % w ≡ 0
+low_whole w n flat low l steps e = ap (λ zs. length zs % w) e ∙ ap (λ (k : ℕ). k % w) (length-take-le n flat l) ∙ steps
+
+-- ---- rows with numbers before them
+
+pub put_more : (h : List ℤ) (x : ℤ) (out one two new all row : List ℤ) (R rest : List (List ℤ)) → R ≡ row ∷ rest → one ≡ out ++ h → two ≡ one ++ x ∷ [] → new ≡ two ++ row
+    → out ++ flat_of (map (put h x) R) ≡ all → new ++ flat_of (map (put h x) rest) ≡ all
+put_more h x out one two new all row R rest r a b c e =
+    let more : List ℤ = flat_of (map (put h x) rest) in
+    ap (λ z. z ++ more) (c ∙ ap (λ z. z ++ row) (b ∙ ap (λ z. z ++ x ∷ []) a ∙ append_assoc out h (x ∷ [])) ∙ append_assoc out (h ++ x ∷ []) row ∙ ap (λ z. out ++ z) (append_assoc h (x ∷ []) row))
+    ∙ append_assoc out (put h x row) more ∙ ap (λ Z. out ++ flat_of (map (put h x) Z)) (sym r) ∙ e
+
+pub put_end : (h : List ℤ) (x : ℤ) (out all : List ℤ) (R : List (List ℤ)) → R ≡ [] → out ++ flat_of (map (put h x) R) ≡ all → out ≡ all
+put_end h x out all R r e = sym (append-nil out) ∙ ap (λ Z. out ++ flat_of (map (put h x) Z)) (sym r) ∙ e
+
+-- ---- the rows that close a group
+
+no_odd_part : IsOddPart [] []
+unfolding has
+no_odd_part = record { rises = asc_none; members = λ q. sym (count_of [] q ∙ xsum-nil (λ s. same s q)) }
+
+pub closed_empty : (n i : ℕ) (at : ℤ) (U : List (List ℤ)) (old new : List ℤ) → U ≡ [] → new ≡ old → IsClosed n i at U old new
+closed_empty n i at U old new e f = record {
+  places = [];
+  wide = refl;
+  odd = subst (λ (T : List (List ℤ)). IsOddPart (map (drop (suc i)) T) []) (sym e) no_odd_part;
+  made = f ∙ sym (append-nil old);
+}
+
+-- rows of which nothing is left
+empty_places : (w : ℕ) (V : List (List ℤ)) (q : List ℤ) → Wide w V → xsum (λ s. same s q) (map (drop w) V) ≡ (same [] q && odd (length V))
+unfolding xor
+empty_places w [] q wide = xsum-nil (λ s. same s q) ∙ sym (ap (λ t. same [] q && t) odd-zero ∙ and-false (same [] q))
+empty_places w (p ∷ V) q wide =
+    let none : drop w p ≡ [] = let l : length p ≡ w = wide.0 in drop_all w p (omega arith) in
+    let more : 1 + length V ≡ suc (length V) = omega arith in
+    xsum-cons (λ s. same s q) (drop w p) (map (drop w) V)
+    ∙ ap₂ xor (ap (λ z. same z q) none) (empty_places w V q wide.1)
+    ∙ turn (same [] q) (odd (length V))
+    ∙ ap (λ t. same [] q && t) (sym (odd-more (length V)) ∙ ap odd more)
+  where
+    turn : (b t : Bool) → xor b (b && t) ≡ (b && not t)
+    turn true t = refl
+    turn false t = refl
+
+-- as many rows as numbers tell
+count_rows : (flat : List ℤ) (w : ℕ) → 0 < w → length flat % w ≡ 0 → length flat / w ≡ length (rows_of flat w 0)
+count_rows flat w wide whole = quotient (length (rows_of flat w 0)) w (length flat) wide (length-rows_of flat w 0 wide whole)
+
+all_wide : (flat : List ℤ) (w : ℕ) → 0 < w → length flat % w ≡ 0 → Wide w (rows_of flat w 0)
+all_wide flat w wide whole = let less : w - 0 ≡ w = omega arith in subst (λ (m : ℕ). Wide m (rows_of flat w 0)) less (rows_of-wide flat w 0 wide whole)
+
+last_odd : (i w : ℕ) (flat : List ℤ) (q : List ℤ) → i + 1 ≡ w → length flat % w ≡ 0 → odd (count_by (λ s. same s q) (map (drop (suc i)) (rows_of flat w 0))) ≡ (same [] q && odd (length flat / w))
+last_odd i w flat q e whole =
+    let wide : 0 < w = omega arith in
+    let m : suc i ≡ w = omega arith in
+    count_of (map (drop (suc i)) (rows_of flat w 0)) q
+    ∙ ap (λ (j : ℕ). xsum (λ s. same s q) (map (drop j) (rows_of flat w 0))) m
+    ∙ empty_places w (rows_of flat w 0) q (all_wide flat w wide whole)
+    ∙ ap (λ (k : ℕ). same [] q && odd k) (sym (count_rows flat w wide whole))
+
+pub closed_even : (i w : ℕ) (at : ℤ) (flat old new : List ℤ) → i + 1 ≡ w → length flat % w ≡ 0 → (length flat / w % 2 ≡ 1 → ⊥) → new ≡ old → IsClosed w i at (rows_of flat w 0) old new
+unfolding has odd
+closed_even i w at flat old new e whole even f = record {
+  places = [];
+  wide = refl;
+  odd = record {
+    rises = asc_none;
+    members = λ q. sym (last_odd i w flat q e whole ∙ ap (λ t. same [] q && t) (ne_eqb (length flat / w % 2) 1 even) ∙ and-false (same [] q));
+  };
+  made = f ∙ sym (append-nil old);
+}
+
+one_asc : (x : List ℤ) → ascending (x ∷ []) ≡ true
+unfolding ascending
+one_asc x = refl
+
+or-false : (b : Bool) → (b || false) ≡ b
+or-false true = refl
+or-false false = refl
+
+-- the head of rows in flat numbers
+head_is : (i w : ℕ) (flat head : List ℤ) → 0 < length flat → i < w → length flat % w ≡ 0 → head ≡ take i flat → head ≡ head_of i (rows_of flat w 0)
+head_is i w flat head some l whole e =
+    e ∙ sym (ap (head_of i) (rows_of-cons flat w 0 some (omega arith)) ∙ shorter i w flat (omega arith))
+  where
+    shorter : (j k : ℕ) (xs : List ℤ) → j ≤ k → take j (take k xs) ≡ take j xs
+    shorter zero k xs m = refl
+    shorter (suc j) zero xs m = absurd (omega arith)
+    shorter (suc j) (suc k) [] m = refl
+    shorter (suc j) (suc k) (x ∷ xs) m = ap (λ z. x ∷ z) (shorter j k xs (omega arith))
+
+pub closed_odd : (i w : ℕ) (at : ℤ) (flat head old one new : List ℤ) → i + 1 ≡ w → 0 < length flat → length flat % w ≡ 0 → length flat / w % 2 ≡ 1 → head ≡ take i flat → one ≡ old ++ head → new ≡ one ++ at ∷ []
+    → IsClosed w i at (rows_of flat w 0) old new
+unfolding has odd
+closed_odd i w at flat head old one new e some whole is h a b = record {
+  places = [] ∷ [];
+  wide = and_both (0 == w - suc i) true (eq-eqb 0 (w - suc i) (omega arith)) refl;
+  odd = record {
+    rises = one_asc [];
+    members = λ q.
+        or-false (same q []) ∙ same_sym q [] ∙ sym (and-true (same [] q))
+        ∙ sym (last_odd i w flat q e whole ∙ ap (λ t. same [] q && t) (eq-eqb (length flat / w % 2) 1 is));
+  };
+  made =
+      b ∙ ap (λ z. z ++ at ∷ []) (a ∙ ap (λ z. old ++ z) (head_is i w flat head some (omega arith) whole h))
+      ∙ append_assoc old (head_of i (rows_of flat w 0)) (at ∷ []) ∙ ap (λ z. old ++ z) (sym (append-nil (put (head_of i (rows_of flat w 0)) at [])));
+}
+
+pub closed_places : (i w k m : ℕ) (at : ℤ) (flat head xs old new : List ℤ) → i + 1 < w → 0 < length flat → length flat % w ≡ 0 → k ≡ w - (i + 1) → m ≡ k → length xs % k ≡ 0 → head ≡ take i flat
+    → IsOddPart (rows_of flat w (i + 1)) (rows_of xs k 0) → new ≡ old ++ flat_of (map (put head at) (rows_of xs m 0)) → IsClosed w i at (rows_of flat w 0) old new
+closed_places i w k m at flat head xs old new l some whole e d whole_xs h o a =
+    let j : i + 1 ≡ suc i = omega arith in
+    let wide : 0 < k = omega arith in
+    let f : k ≡ w - suc i = omega arith in
+    record {
+      places = rows_of xs k 0;
+      wide = ap (λ (z : ℕ). list_all (λ q. length q == z) (rows_of xs k 0)) (sym f) ∙ to_wide k (rows_of xs k 0) (all_wide xs k wide whole_xs);
+      odd = subst (λ (T : List (List ℤ)). IsOddPart T (rows_of xs k 0)) (rows_of-skip flat w (i + 1) ∙ ap (λ (z : ℕ). map (drop z) (rows_of flat w 0)) j) o;
+      made = a ∙ ap₂ (λ (z : List ℤ) (y : ℕ). old ++ flat_of (map (put z at) (rows_of xs y 0))) (head_is i w flat head some (omega arith) whole h) d;
+    }
+
+-- ---- group after group
+
+pub cut_none : (w : ℕ) (out : List ℤ) → out ≡ [] → rows_of out w 0 ≡ []
+cut_none w out e = ap (λ z. rows_of z w 0) e ∙ rows_of-nil w 0
+
+-- the numbers of one more group
+pub cut_group : (w i : ℕ) (at : ℤ) (V R G T : List (List ℤ)) (out new : List ℤ) → 0 < w → i < w → 0 < length R → length out % w ≡ 0 → IsCutSoFar w i at V (rows_of out w 0) R → IsFrontGroup i R G T → IsCut w i at G out new
+    → (length new % w ≡ 0) × IsCutSoFar w i at V (rows_of new w 0) T
+cut_group w i at V R G T out new wide l some whole s f c =
+    let (paired, g) = group_is w i at V (rows_of out w 0) R G T l s f in
+    let M : List (List ℤ) = map (put (head_of i c.fewer) at) c.closed.places in
+    let N : List (List ℤ) = c.low ++ M in
+    let n : IsLowered w i at (head_of i R) G N = group_lowered w i at (head_of i R) G c.low c.high c.fewer c.closed.places g c.parted c.one_side c.closed.wide c.closed.odd in
+    let more : IsCutSoFar w i at V (rows_of out w 0 ++ N) T = cut_more w i at V (rows_of out w 0) R G T N l some s f paired n in
+    let u : Wide w N = from_wide w N n.wide in
+    let made : new ≡ out ++ flat_of N = c.closed.made ∙ ap (λ z. z ++ flat_of M) c.kept ∙ append_assoc out (flat_of c.low) (flat_of M) ∙ ap (λ z. out ++ z) (sym (flat_of-append c.low M)) in
+    let rows : rows_of new w 0 ≡ rows_of out w 0 ++ N = ap (λ z. rows_of z w 0) made ∙ rows_of-append out (flat_of N) w 0 wide whole ∙ ap (λ Z. rows_of out w 0 ++ Z) (rows_of-flat_of w N wide u) in (
+      length_whole (rows_of out w 0 ++ N) (from_wide w (rows_of out w 0 ++ N) more.wide)
+          (made ∙ ap (λ z. z ++ flat_of N) (sym (flat_of-rows_of out w wide whole)) ∙ sym (flat_of-append (rows_of out w 0) N)),
+      subst (λ (Z : List (List ℤ)). IsCutSoFar w i at V Z T) (sym rows) more,
+    )
+  where
+    length_whole : (Z : List (List ℤ)) → Wide w Z → new ≡ flat_of Z → length new % w ≡ 0
+    length_whole Z v e = ap (λ (z : List ℤ). length z % w) e ∙ ap (λ (k : ℕ). k % w) (length-flat_of w Z v) ∙ mul-mod_left (length Z) w
+
+-- a cut of a group, by the side that its closing rows are asked of
+pub cut_is : (w i : ℕ) (at : ℤ) (group low high fewer old middle new : List ℤ) → i < w → length low % w ≡ 0 → IsParted i at (rows_of group w 0) (rows_of low w 0) (rows_of high w 0)
+    → (fewer ≡ low) ⊎ (fewer ≡ high) → middle ≡ old ++ low → IsClosed w i at (rows_of fewer w 0) middle new → IsCut w i at (rows_of group w 0) old new
+cut_is w i at group low high fewer old middle new l whole p side m c = record {
+  low = rows_of low w 0;
+  high = rows_of high w 0;
+  fewer = rows_of fewer w 0;
+  middle = middle;
+  parted = p;
+  one_side = ⊎_elim (λ (e : fewer ≡ low). inl (ap (λ (z : List ℤ). rows_of z w 0) e)) (λ (e : fewer ≡ high). inr (ap (λ (z : List ℤ). rows_of z w 0) e)) side;
+  kept = m ∙ ap (λ (z : List ℤ). old ++ z) (sym (flat_of-rows_of low w (omega arith) whole));
+  closed = c;
+}
+
+pub some_rows : (flat : List ℤ) (w : ℕ) → 0 < w → 0 < length flat → 0 < length (rows_of flat w 0)
+some_rows flat w wide some = let e = ap length (rows_of-cons flat w 0 some wide) in omega (arith, e)
+
+-- ---- the whole
+
+-- the vertices of a view that passes over no number
+pub whole_rows : (w s : ℕ) (flat : List ℤ) → s ≡ 0 → IsVertexList (w - s) (rows_of flat w s) → IsVertexList w (rows_of flat w 0)
+whole_rows w s flat e v =
+    let d : w - s ≡ w = omega arith in
+    subst (λ (k : ℕ). IsVertexList k (rows_of flat w 0)) d (subst (λ (k : ℕ). IsVertexList (w - s) (rows_of flat w k)) e v)
+
+pub below_made : (w s i : ℕ) (at : ℤ) (flat xs : List ℤ) → w ≤ 6 → s < w → s ≡ 0 → IsBetween (w - s) i at → IsVertexList (w - s) (rows_of flat w s) → length xs % w ≡ 0 → IsReduced w (map (lowered i at) (rows_of flat w 0)) (rows_of xs w 0)
+    → AreRows xs w 0 × (cells w (rows_of xs w 0) ≡ filter (is_under i at) (cells (w - s) (rows_of flat w s)))
+below_made w s i at flat xs few left e b v whole r =
+    let d : w - s ≡ w = omega arith in
+    let V : List (List ℤ) = rows_of flat w 0 in
+    let T : List (List ℤ) = filter (is_under i at) (cells w V) in
+    let t : IsCellSet w T = cell_set-part w (is_under i at) (cells w V) (cell_set-cells w V) in
+    let c : IsBetween w i at = subst (λ (k : ℕ). IsBetween k i at) d b in
+    let k : rows_of xs w 0 ≡ evm w T = below_rows w i at V (rows_of xs w 0) few c (whole_rows w s flat e v) r in (
+      are_rows_of w xs T (omega arith) few whole t k,
+      cells_of w w (rows_of xs w 0) T refl t k ∙ ap₂ (λ (n m : ℕ). filter (is_under i at) (cells n (rows_of flat w m))) (sym d) (sym e),
+    )

@@ -1,0 +1,14 @@
+use Rattle.std.proofs.Common.{◌≡◌, ◌%◌, length}
+use Rattle.evm_rows.specs.Rows.{rows_of}
+use Rattle.evm_cutting.proofs.Closed.{IsCutSoFar}
+use Rattle.evm_cutting.proofs.levels.rows_below.Given as goal
+
+abbrev pub invariant-loop-rest : goal.invariant-loop-rest
+invariant-loop-rest l = record {
+  whole : length l.rest % l.width ≡ 0;
+  made : length l.out.items % l.width ≡ 0;
+  so_far : IsCutSoFar l.width l.axis l.at (rows_of l.flat l.width 0) (rows_of l.out.items l.width 0) (rows_of l.rest l.width 0);
+}
+
+abbrev pub decreases-loop-rest : goal.decreases-loop-rest
+decreases-loop-rest l = length l.rest
