@@ -47,6 +47,12 @@ returns-clause-cells g c = change_is c.args.op c.args.a.now (vertices_of c.args.
 pub returns-clause-carries : goal.returns-clause-carries
 returns-clause-carries g c = change_carries c.args.op c.args.a.now (vertices_of c.args.da) c.args.b.now (vertices_of c.args.db) c.in_ok-made-2.made (returns-clause-vertices g c)
 
+pub returns-in_err-right-clause-few : goal.returns-in_err-right-clause-few
+returns-in_err-right-clause-few g c =
+    let left = c.left_near.ensures.few c.args.a.now (sym c.requires.left) in
+    let right = c.right_near.ensures.few (vertices_of c.args.da) c.args.b.now c.requires.left c.requires.other in
+    omega (arith, left, right)
+
 pub returns-in_err-made-2-clause-few : goal.returns-in_err-made-2-clause-few
 returns-in_err-made-2-clause-few g c =
     let left = c.left_near.ensures.few c.args.a.now (sym c.requires.left) in
