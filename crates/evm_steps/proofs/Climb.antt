@@ -1,8 +1,11 @@
 -- A Boolean that grows by one height
-use Rattle.std.proofs.Common.{◌≡◌, ℕ, ℤ, Bool, Some, List, ◌+◌, ◌<◌, ◌++◌, length, ap, ◌∙◌, arith}
+use Rattle.std.proofs.Common.{◌≡◌, ℕ, ℤ, Bool, Some, List, ◌+◌, ◌<◌, ◌++◌, length, sym, ap, ◌∙◌, arith}
+use Rattle.evm_cells.specs.Booleans.{combine}
+use Rattle.evm_cells.specs.Vertices.{cells}
 use Rattle.evm_rows.specs.Rows.{Vertices, flat_of, xor_rows, combined_rows, raised}
 use Rattle.evm_sections.specs.Couplets.{first_height}
 use Rattle.evm_boolean.specs.Tower.{lower, after, section_at}
+use Rattle.evm_boolean.proofs.Answer.{cells_are}
 use Rattle.evm_boolean.proofs.Cuts.{cuts-fall}
 use Rattle.evm_boolean.proofs.TowerSteps.{tower, cuts_of, tower_more}
 
@@ -38,3 +41,7 @@ turn-falls h k la lb ma mb same low left right =
     let left_h : ma ≡ after h la = left ∙ ap (λ j. after j la) same in
     let right_h : mb ≡ after h lb = right ∙ ap (λ j. after j lb) same in
     omega (arith, cuts-fall h la lb low, ap length left_h, ap length right_h)
+
+-- the cells of an answer s
+pub cells_given : (op : Bool → Bool → Bool) (a b s : Vertices) → s.dim ≡ a.dim → s.rows ≡ combined_rows op a.dim a.rows b.rows → cells s.dim s.rows ≡ combine op s.dim (cells s.dim a.rows) (cells s.dim b.rows)
+cells_given op a b s d r = cells_are op s.dim a.rows b.rows s.rows (r ∙ ap (λ n. combined_rows op n a.rows b.rows) (sym d))
