@@ -161,7 +161,7 @@ pub fn pass_slabs<L: Ledger>(a: Rows<'_>, steps: &mut Steps<L>)
     requires { 1 < (vertices_of a).dim }
     ensures { steps.new ≡ steps.old + length (cuts_of (vertices_of a.entry)) }
 {
-    let mut walk = evm_sections::Walk::of(a);
+    let mut walk = Walk::of(a);
     while let Some(_couplet) = walk.next_couplet() {
         steps.tick();
     }
