@@ -12,7 +12,8 @@ use evm_shapes::clip;
 use std::alloc::Global;
 
 /// What a solid has below the plane at `at` across an axis, counted from 0. The plane lies strictly within the limits of the
-/// dimension. Takes memory as `clip` does.
+/// dimension. Sorts nothing, and takes memory for as many numbers as the solid has, once, and what `odd_places` takes; where the view
+/// passes over numbers of its rows, it sorts and takes memory as `clip` does.
 pub fn under(alloc: Global, a: Rows<'_>, axis: usize, at: i32) -> Result<Solid, NoMemory>
     requires axis { axis < (vertices_of a).dim }
     requires low { neg_ℤ (pos (limit (vertices_of a).dim)) <ℤ at }
@@ -21,7 +22,7 @@ pub fn under(alloc: Global, a: Rows<'_>, axis: usize, at: i32) -> Result<Solid, 
     ensures cells { IfOk result (λ s. cells_of s ≡ cells_under axis at (vertices_of a.entry)) }
 {
     let dim = a.dim();
-    if a.skip == 0 && (axis == 0 || axis + 1 == dim) {
+    if a.skip == 0 {
         return below(alloc, a, axis, at);
     }
     let limit = limit(dim);
