@@ -149,10 +149,9 @@ puts_sum h x p K =
 
 equal_parts : (a b : Bool) → xor a b ≡ false → a ≡ b
 unfolding xor
+equal_parts false b e = sym e
 equal_parts true true e = refl
 equal_parts true false e = e
-equal_parts false true e = sym e
-equal_parts false false e = refl
 
 -- the odd places of the rows below, and of the others, are the same
 odd_of_high : (P S fewer O : List (List ℤ)) (j : ℕ) → ((q : List ℤ) → xsum (λ s. same s q) (map (drop j) (P ++ S)) ≡ false) → (fewer ≡ P) ⊎ (fewer ≡ S) → IsOddPart (map (drop j) fewer) O

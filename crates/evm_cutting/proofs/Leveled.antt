@@ -91,21 +91,21 @@ closed_empty n i at U old new e f = record {
   made = f ∙ sym (append-nil old);
 }
 
--- rows of which nothing is left
-empty_places : (w : ℕ) (V : List (List ℤ)) (q : List ℤ) → Wide w V → xsum (λ s. same s q) (map (drop w) V) ≡ (same [] q && odd (length V))
+-- rows of which nothing is left: their number tells how often the place without numbers occurs
+nothing_behind : (w : ℕ) (T : List (List ℤ)) (r : List ℤ) → Wide w T → xsum (λ s. same s r) (map (drop w) T) ≡ (same [] r && odd (length T))
 unfolding xor
-empty_places w [] q wide = xsum-nil (λ s. same s q) ∙ sym (ap (λ t. same [] q && t) odd-zero ∙ and-false (same [] q))
-empty_places w (p ∷ V) q wide =
-    let none : drop w p ≡ [] = let l : length p ≡ w = wide.0 in drop_all w p (omega arith) in
-    let more : 1 + length V ≡ suc (length V) = omega arith in
-    xsum-cons (λ s. same s q) (drop w p) (map (drop w) V)
-    ∙ ap₂ xor (ap (λ z. same z q) none) (empty_places w V q wide.1)
-    ∙ turn (same [] q) (odd (length V))
-    ∙ ap (λ t. same [] q && t) (sym (odd-more (length V)) ∙ ap odd more)
+nothing_behind w [] r wide = xsum-nil (λ s. same s r) ∙ sym (ap (λ t. same [] r && t) odd-zero ∙ and-false (same [] r))
+nothing_behind w (p ∷ T) r wide =
+    let gone : drop w p ≡ [] = let l : length p ≡ w = wide.0 in drop_all w p (omega arith) in
+    let longer : 1 + length T ≡ suc (length T) = omega arith in
+    let parity : (same [] r && not (odd (length T))) ≡ (same [] r && odd (suc (length T))) =
+    ap (λ t. same [] r && t) (sym (odd-more (length T)) ∙ ap odd longer) in
+    xsum-cons (λ s. same s r) (drop w p) (map (drop w) T) ∙ ap₂ xor (ap (λ z. same z r) gone) (nothing_behind w T r wide.1)
+    ∙ flipped (same [] r) (odd (length T)) ∙ parity
   where
-    turn : (b t : Bool) → xor b (b && t) ≡ (b && not t)
-    turn true t = refl
-    turn false t = refl
+    flipped : (b t : Bool) → xor b (b && t) ≡ (b && not t)
+    flipped true t = refl
+    flipped false t = refl
 
 -- as many rows as numbers tell
 count_rows : (flat : List ℤ) (w : ℕ) → 0 < w → length flat % w ≡ 0 → length flat / w ≡ length (rows_of flat w 0)
@@ -120,7 +120,7 @@ last_odd i w flat q e whole =
     let m : suc i ≡ w = omega arith in
     count_of (map (drop (suc i)) (rows_of flat w 0)) q
     ∙ ap (λ (j : ℕ). xsum (λ s. same s q) (map (drop j) (rows_of flat w 0))) m
-    ∙ empty_places w (rows_of flat w 0) q (all_wide flat w wide whole)
+    ∙ nothing_behind w (rows_of flat w 0) q (all_wide flat w wide whole)
     ∙ ap (λ (k : ℕ). same [] q && odd k) (sym (count_rows flat w wide whole))
 
 pub closed_even : (i w : ℕ) (at : ℤ) (flat old new : List ℤ) → i + 1 ≡ w → length flat % w ≡ 0 → (length flat / w % 2 ≡ 1 → ⊥) → new ≡ old → IsClosed w i at (rows_of flat w 0) old new

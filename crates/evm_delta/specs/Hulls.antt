@@ -17,10 +17,12 @@ AgreesOver i d t s = (c : List ℤ) (k : ℤ) → has (shadow i d) c ≡ true �
 abbrev pub HasNearCuts : Vertices → Vertices → Vertices → Type 0
 HasNearCuts d t s =
     (h : ℤ) → is_cut s.dim (cells_of s) h ≡ true
-    → (is_cut d.dim (cells_of d) h ≡ true) ⊎ ((is_cut t.dim (cells_of t) h ≡ true) × (is_spanned d.dim (cells_of d ∷ []) h ≡ true))
+    → (is_cut d.dim (cells_of d) h ≡ true)
+    ⊎ ((is_cut t.dim (cells_of t) h ≡ true) × (is_spanned d.dim (cells_of d ∷ []) h ≡ true))
 
 -- the same for what is opened along axis i: along the first axis the cuts of t may be anywhere
 abbrev pub HasColumnCuts : ℕ → Vertices → Vertices → Vertices → Type 0
 HasColumnCuts i d t s =
     (h : ℤ) → is_cut s.dim (cells_of s) h ≡ true
-    → (is_cut d.dim (cells_of d) h ≡ true) ⊎ ((is_cut t.dim (cells_of t) h ≡ true) × (0 < i → is_spanned d.dim (cells_of d ∷ []) h ≡ true))
+    → (is_cut d.dim (cells_of d) h ≡ true)
+    ⊎ ((is_cut t.dim (cells_of t) h ≡ true) × (0 < i → is_spanned d.dim (cells_of d ∷ []) h ≡ true))

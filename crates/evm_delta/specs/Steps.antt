@@ -9,7 +9,8 @@ use Rattle.evm_delta.specs.Shapes.{changed_cells}
 -- how many cuts two operands have, before or after, in the least range that has their changes
 abbrev pub near_cuts : Vertices → Vertices → Vertices → Vertices → ℕ
 near_cuts a da b db =
-    spanned_cut_count a.dim (cells_of a ∷ changed_cells a da ∷ cells_of b ∷ changed_cells b db ∷ []) (cells_of da ∷ cells_of db ∷ [])
+    spanned_cut_count a.dim (cells_of a ∷ changed_cells a da ∷ cells_of b ∷ changed_cells b db ∷ [])
+    (cells_of da ∷ cells_of db ∷ [])
 
 -- whether a shape is the projection along the first axis, which puts all sections together
 abbrev pub joins_sections : Op1 → Bool

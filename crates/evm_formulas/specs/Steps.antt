@@ -9,7 +9,8 @@ use Rattle.evm_model.specs.Work.{change_between}
 -- how many cuts two operands have, at first or as they become, in the least range that has their changes
 abbrev pub pair_cuts : Figure → Figure → Figure → Figure → ℕ
 pair_cuts a left b right =
-    spanned_cut_count a.dim (a.cells ∷ left.cells ∷ b.cells ∷ right.cells ∷ []) (change_between a left ∷ change_between b right ∷ [])
+    spanned_cut_count a.dim (a.cells ∷ left.cells ∷ b.cells ∷ right.cells ∷ [])
+    (change_between a left ∷ change_between b right ∷ [])
 
 -- how many cuts an operand has, at first or as it becomes, in the range of its change; all of them where all sections are put together
 abbrev pub shape_cuts : Op1 → Figure → Figure → ℕ

@@ -66,7 +66,8 @@ made_cuts f old new at =
 -- how many heights an edit looks at in its own name
 abbrev pub edited_cuts : Edit → Figure → Figure → (List ℕ → Figure) → ℕ
 edited_cuts (Input name dim) old new at = 0
-edited_cuts (Toggle name nums) old new at = box_cuts (get_or (low_of new.dim nums) 0 (pos 0)) (get_or (high_of new.dim nums) 0 (pos 0)) old new
+edited_cuts (Toggle name nums) old new at =
+    box_cuts (get_or (low_of new.dim nums) 0 (pos 0)) (get_or (high_of new.dim nums) 0 (pos 0)) old new
 edited_cuts (Add name nums) old new at = box_cuts (get_or (low_of new.dim nums) 0 (pos 0)) (get_or (high_of new.dim nums) 0 (pos 0)) old new
 edited_cuts (Cut name nums) old new at = box_cuts (get_or (low_of new.dim nums) 0 (pos 0)) (get_or (high_of new.dim nums) 0 (pos 0)) old new
 edited_cuts (Replace name figure) old new at = cut_count new.dim (old.cells ∷ new.cells ∷ [])

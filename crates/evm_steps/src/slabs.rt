@@ -1,11 +1,8 @@
 //! Combinations of sections, which are counted.
 
 ghost use Rattle.std.specs.Prelude.{◌≡◌, ◌+◌, ◌<◌, ◌≤◌, length, IfOk};
-ghost use Rattle.evm_cells.specs.Vertices.{cells};
-ghost use Rattle.evm_cells.specs.Booleans as CellBooleans;
-ghost use Rattle.evm_rows.specs.Rows.{combined_rows};
 ghost use Rattle.evm_rows.specs.View.{vertices_of};
-ghost use Rattle.evm_boolean.specs.Tower.{fills};
+ghost use Rattle.evm_steps.specs.Combined.{combined, HasCombined};
 ghost use Rattle.evm_steps.specs.Cuts.{cuts_of};
 
 use crate::steps::Steps;
@@ -28,21 +25,18 @@ pub fn combine<L: Ledger>(
     steps: &mut Steps<L>,
 ) -> Result<Solid, NoMemory>
     requires { (vertices_of a).dim ≡ (vertices_of b).dim }
-    ensures dim { IfOk result (λ s. s.dim ≡ (vertices_of a.entry).dim) }
     ensures rows { IfOk result
-        (λ s. s.rows ≡ combined_rows (fills op) (vertices_of a.entry).dim
-        (vertices_of a.entry).rows (vertices_of b.entry).rows) }
+        (λ s. s.rows ≡ combined op (vertices_of a.entry) (vertices_of b.entry)) }
     ensures cells { IfOk result
-        (λ s. cells s.dim s.rows
-        ≡ CellBooleans.combine (fills op) s.dim (cells s.dim (vertices_of a.entry).rows)
-        (cells s.dim (vertices_of b.entry).rows)) }
+        (λ s. HasCombined op (vertices_of a.entry) (vertices_of b.entry) s) }
+    ensures dim { IfOk result (λ s. s.dim ≡ (vertices_of a.entry).dim) }
 
     // One step, whatever it answers.
     ensures one { steps.new ≡ steps.old + 1 }
 {
-    let room = Solid::empty(alloc, 1);
     let mut rooms = Vec::new(alloc);
-    let solid = step(alloc, op, a, b, room, &mut rooms, steps)?;
+    let room = Solid::empty(alloc, 1);
+    let solid = step(alloc, op, a, b, &mut rooms, room, steps)?;
     Ok(solid)
 }
 
@@ -52,15 +46,14 @@ fn step<L: Ledger>(
     op: Op2,
     a: Rows<'_>,
     b: Rows<'_>,
-    room: Solid,
     rooms: &mut Vec<Solid>,
+    room: Solid,
     steps: &mut Steps<L>,
 ) -> Result<Solid, NoMemory>
     requires { (vertices_of a).dim ≡ (vertices_of b).dim }
-    ensures dim { IfOk result (λ s. s.dim ≡ (vertices_of a.entry).dim) }
     ensures rows { IfOk result
-        (λ s. s.rows ≡ combined_rows (fills op) (vertices_of a.entry).dim
-        (vertices_of a.entry).rows (vertices_of b.entry).rows) }
+        (λ s. s.rows ≡ combined op (vertices_of a.entry) (vertices_of b.entry)) }
+    ensures dim { IfOk result (λ s. s.dim ≡ (vertices_of a.entry).dim) }
     ensures one { steps.new ≡ steps.old + 1 }
 {
     steps.tick();
@@ -81,14 +74,11 @@ pub fn combine_slabs<L: Ledger>(
     steps: &mut Steps<L>,
 ) -> Result<Solid, NoMemory>
     requires { (vertices_of a).dim ≡ (vertices_of b).dim }
-    ensures dim { IfOk result (λ s. s.dim ≡ (vertices_of a.entry).dim) }
     ensures rows { IfOk result
-        (λ s. s.rows ≡ combined_rows (fills op) (vertices_of a.entry).dim
-        (vertices_of a.entry).rows (vertices_of b.entry).rows) }
+        (λ s. s.rows ≡ combined op (vertices_of a.entry) (vertices_of b.entry)) }
     ensures cells { IfOk result
-        (λ s. cells s.dim s.rows
-        ≡ CellBooleans.combine (fills op) s.dim (cells s.dim (vertices_of a.entry).rows)
-        (cells s.dim (vertices_of b.entry).rows)) }
+        (λ s. HasCombined op (vertices_of a.entry) (vertices_of b.entry) s) }
+    ensures dim { IfOk result (λ s. s.dim ≡ (vertices_of a.entry).dim) }
 
     // No more steps than both have cuts, whatever it answers.
     ensures few { steps.new
@@ -116,10 +106,9 @@ fn climb<L: Ledger>(
 ) -> Result<Solid, NoMemory>
     requires same_dim { (vertices_of a).dim ≡ (vertices_of b).dim }
     requires deep { 1 < (vertices_of a).dim }
-    ensures dim { IfOk result (λ s. s.dim ≡ (vertices_of a.entry).dim) }
     ensures rows { IfOk result
-        (λ s. s.rows ≡ combined_rows (fills op) (vertices_of a.entry).dim
-        (vertices_of a.entry).rows (vertices_of b.entry).rows) }
+        (λ s. s.rows ≡ combined op (vertices_of a.entry) (vertices_of b.entry)) }
+    ensures dim { IfOk result (λ s. s.dim ≡ (vertices_of a.entry).dim) }
     ensures few { steps.new
         ≤ steps.old
         + (length (cuts_of (vertices_of a.entry)) + length (cuts_of (vertices_of b.entry))) }
@@ -144,8 +133,8 @@ fn climb<L: Ledger>(
             op,
             below_a.rows(),
             below_b.rows(),
-            other,
             &mut rooms,
+            other,
             steps,
         )?;
         out = append_xor(out, Some(height), below.rows(), above.rows())?;

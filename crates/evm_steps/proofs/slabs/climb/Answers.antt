@@ -56,6 +56,8 @@ loop-height-preserved g c =
       deep = inv.deep;
       dim_is = inv.dim_is;
       left_dim = omega (arith, c.in_ok-next_a.ensures.walk_dim, inv.left_dim);
+      few = omega (arith, falls, inv.few, c.in_ok-above.ensures.one);
+      more = omega (arith, inv.more, c.in_ok-above.ensures.one);
       right_dim = omega (arith, c.in_ok-next_b.ensures.walk_dim, inv.right_dim);
       a_dim = omega (arith, c.in_ok-next_a.ensures.dim, inv.a_dim);
       b_dim = omega (arith, c.in_ok-next_b.ensures.dim, inv.b_dim);
@@ -64,8 +66,6 @@ loop-height-preserved g c =
           same dim_a dim_b dim_below c.in_ok-next_a.ensures.dim low c.in_ok-next_a.ensures.left c.in_ok-next_b.ensures.left
           c.in_ok-next_a.ensures.rows c.in_ok-next_b.ensures.rows c.rows.ensures c.rows-in-Some.ensures c.in_ok-above.ensures.rows
           c.rows-in-Some-2.ensures c.rows-in-Some-3.ensures c.in_ok-out.ensures inv.so_far;
-      few = omega (arith, falls, inv.few, c.in_ok-above.ensures.one);
-      more = omega (arith, inv.more, c.in_ok-above.ensures.one);
     }
 
 pub loop-height-smaller : goal.loop-height-smaller
