@@ -31,7 +31,7 @@ use Rattle.evm_formulas.proofs.Stated.{dim_low, dim_high}
 
 -- ---- axes
 
-axis_low : (n : ℕ) (axis : ℤ) → is_axis n axis ≡ true → pos 1 ≤ℤ axis
+pub axis_low : (n : ℕ) (axis : ℤ) → is_axis n axis ≡ true → pos 1 ≤ℤ axis
 axis_low n axis h = le_is (pos 1) axis (and_first (int_le (pos 1) axis) (int_le axis (pos n)) h)
 
 axis_high : (n : ℕ) (axis : ℤ) → is_axis n axis ≡ true → axis ≤ℤ pos n

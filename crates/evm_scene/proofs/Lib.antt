@@ -28,3 +28,5 @@ pub mod OtherFigures
 pub mod Stated
 pub mod FormulaLaws
 pub mod Reformed
+pub mod Costs
+pub mod Steps

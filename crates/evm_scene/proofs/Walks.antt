@@ -3,13 +3,15 @@ use Rattle.std.proofs.Common.{◌≡◌, ℕ, ◌+◌, Bool, true, false, cond, 
 use Rattle.std.proofs.lemmas.Bool.{both_ways}
 use Rattle.std.proofs.lemmas.List.{drop_all}
 use Rattle.evm_model.specs.Orders.{is_among, AllSeen, Ordered}
-use Rattle.evm_model.proofs.Names.{same_name, equal_names, different_names, name_itself, or_none, among_here, among_later, apart, apart_back}
-use Rattle.evm_model.proofs.Levels.{ordered_reads}
+use Rattle.evm_model.proofs.Names.{same_name, equal_names, different_names, name_itself, or_none, among_here, among_later, among_none, apart, apart_back}
+use Rattle.evm_model.proofs.Levels.{along, ordered_reads}
+use Rattle.evm_model.specs.Figures.{Figure}
 use Rattle.evm_scene.specs.declared.node.Node.{Node}
 use Rattle.evm_formulas.specs.declared.changes.Change.{Change}
 use Rattle.evm_scene.specs.Tables.{Table, node_at, reads_at, node_value, node_stays, node_figure, kept}
 use Rattle.evm_formulas.specs.Changes.{after_of, IsChange}
 use Rattle.evm_scene.specs.Changes.{Pending, change_at, moved, MovesNode, IsCarried, IsCarriedTo, IsHalted}
+use Rattle.evm_scene.specs.Works.{IsOutcome}
 use Rattle.evm_scene.proofs.Views.{value_same, stays_same}
 
 pub record Walk (t : Table) (front : List (List ℕ)) (name : List ℕ) (old p : Pending) (rest : List (List ℕ)) : Type 0 where
@@ -25,6 +27,7 @@ pub record Walk (t : Table) (front : List (List ℕ)) (name : List ℕ) (old p :
   pub seed : change_at p name ≡ change_at old name
   pub change : (x : List ℕ) → IsChange (change_at p x) (kept t x)
   pub moves : (x : List ℕ) → bytes_eq x name ≡ false → MovesNode (change_at p x) (node_at t x)
+  pub same : (V : List ℕ → Figure) → IsOutcome t name (moved t old name) V → (x : List ℕ) → is_among x seen ≡ true → moved t p x ≡ V x
 
 -- one name is done, with its change or without one
 module _ (t : Table) (front : List (List ℕ)) (name : List ℕ) (old p q : Pending) (x : List ℕ) (rest : List (List ℕ)) (c : Option Change)
@@ -90,6 +93,14 @@ module _ (t : Table) (front : List (List ℕ)) (name : List ℕ) (old p q : Pend
       let parts = or_none (bytes_eq y x) (is_among y w.seen) out in
       sym (ap (λ b. b || is_among y rest) parts.0) ∙ w.all y there parts.1
 
+  at_same : (V : List ℕ → Figure) → IsOutcome t name (moved t old name) V → (y : List ℕ) (b : Bool) → bytes_eq y x ≡ b → is_among y (x ∷ w.seen) ≡ true → moved t q y ≡ V y
+  at_same V out y true e there =
+      subst (λ k. moved t q k ≡ V k) (sym (same_name y x e))
+      (moved_here ∙ value_same (node_at t x) (moved t p) V (λ o r. w.same V out o (w.left.1 o r)) ∙ sym (out.fixed x (apart x name w.seen new w.named)))
+  at_same V out y false e there =
+      let seen_y : is_among y w.seen ≡ true = sym (ap (λ b. b || is_among y w.seen) e) ∙ there in
+      sym (moved_seen y seen_y) ∙ w.same V out y seen_y
+
   pub walk_step : Walk t front name old q rest
   walk_step = record {
     seen = x ∷ w.seen;
@@ -104,6 +115,7 @@ module _ (t : Table) (front : List (List ℕ)) (name : List ℕ) (old p q : Pend
     seed = else_seen name w.named ∙ w.seed;
     change = λ y. at_change y (bytes_eq x y) refl;
     moves = λ y other. at_moves y (bytes_eq x y) refl other;
+    same = λ V out y h. at_same V out y (bytes_eq y x) refl h;
   }
 
 -- the walk's start: just the name that is edited has a change
@@ -131,6 +143,17 @@ module _ (t : Table) (front : List (List ℕ)) (name : List ℕ) (p : Pending) (
   start_change x true e = subst (λ k. IsChange (change_at p k) (kept t k)) (sym (same_name x name e)) seed_change
   start_change x false e = subst (λ o. IsChange o (kept t x)) (sym (others x e)) tt
 
+  front_same : (V : List ℕ → Figure) → IsOutcome t name (moved t p name) V → (x : List ℕ) → is_among x front ≡ true → kept t x ≡ V x
+  front_same V out x there = along (reads_at t) (λ y. is_among y front ≡ true → kept t y ≡ V y) from_reads [] front ordered (λ y m. among_none y m) x there there
+    where
+      from_reads : (y : List ℕ) → ((o : List ℕ) → is_among o (reads_at t y) ≡ true → is_among o front ≡ true → kept t o ≡ V o) → is_among y front ≡ true → kept t y ≡ V y
+      from_reads y below m =
+          kept_fixed y ∙ value_same (node_at t y) (kept t) V (λ o r. below o r (ordered_reads (reads_at t) [] front ordered y m o r)) ∙ sym (out.fixed y (front_other y m))
+
+  start_same : (V : List ℕ → Figure) → IsOutcome t name (moved t p name) V → (x : List ℕ) (b : Bool) → bytes_eq x name ≡ b → is_among x (name ∷ front) ≡ true → moved t p x ≡ V x
+  start_same V out x true e there = subst (λ k. moved t p k ≡ V k) (sym (same_name x name e)) (sym out.seed)
+  start_same V out x false e there = still x e ∙ front_same V out x (in_front x there e)
+
   pub walk_start : Walk t front name p p later
   walk_start = record {
     seen = name ∷ front;
@@ -146,6 +169,7 @@ module _ (t : Table) (front : List (List ℕ)) (name : List ℕ) (p : Pending) (
     seed = refl;
     change = λ x. start_change x (bytes_eq x name) refl;
     moves = λ x other. subst (λ o. MovesNode o (node_at t x)) (sym (others x other)) tt;
+    same = λ V out x h. start_same V out x (bytes_eq x name) refl h;
   }
 
   -- where the name's own change is none, all is carried

@@ -8,3 +8,4 @@ pub mod Boxes
 pub mod Definitions
 pub mod InputEdits
 pub mod Refused
+pub mod Works

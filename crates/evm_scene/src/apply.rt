@@ -10,7 +10,9 @@ use super::removed::remove;
 use super::replaced::replace;
 use super::scene::Scene;
 use evm_meter::Meter;
+use evm_steps::Steps;
 use std::alloc::Global;
+use std::sync::ledger::Ledger;
 
 impl<M: Meter> Scene<M> {
     /// Makes an edit, and answers how many names stood before and after and changed their cells.
@@ -19,7 +21,12 @@ impl<M: Meter> Scene<M> {
     /// `Refusal`, or `NoMemory`, which may come at any edit. Takes memory for the change of each name that changes, and for what of
     /// its tree the change meets, and of each watched name that changes for what is near its change. Another solid of an input or
     /// formula, and a new formula, take the rows of the solid before, of the operands and of the solid after as well.
-    pub fn apply(&mut self, alloc: Global, edit: Edit) -> Result<Changed, Refusal>
+    pub fn apply<L: Ledger>(
+        &mut self,
+        alloc: Global,
+        edit: Edit,
+        steps: &mut Steps<L>,
+    ) -> Result<Changed, Refusal>
         ensures { Applies result self.old self.new (edit_view edit) }
     {
         self.facts();
@@ -34,6 +41,7 @@ impl<M: Meter> Scene<M> {
                     how,
                     &name,
                     &nums,
+                    steps,
                 )
             }
             Edit::Replace { name, solid } => {
@@ -44,6 +52,7 @@ impl<M: Meter> Scene<M> {
                     self.order.as_slice(),
                     &name,
                     solid,
+                    steps,
                 )
             }
             Edit::Def { name, formula } => {
@@ -54,6 +63,7 @@ impl<M: Meter> Scene<M> {
                     &mut self.order,
                     name,
                     formula,
+                    steps,
                 )
             }
             Edit::Drop { name } => remove(&mut self.table, &self.slots, &mut self.order, &name),

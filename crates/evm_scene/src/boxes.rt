@@ -20,10 +20,12 @@ use evm_formulas::solids::{changed, exclusive_or};
 use evm_meter::Meter;
 use evm_rows::{NoMemory, Solid, limit};
 use evm_script::{Name, Nums};
+use evm_steps::Steps;
 use evm_tiles::Tiles;
 use evm_watch::Slots;
 use indexmap::IndexMap;
 use std::alloc::Global;
+use std::sync::ledger::Ledger;
 
 /// What of a solid is in the box that the numbers state.
 fn part_in(alloc: Global, own: &Tiles, nums: &Nums) -> Result<Solid, NoMemory>
@@ -137,7 +139,7 @@ fn planned(
 /// Refused in this order: `Name` where the name does not stand, `Kind` where it is a formula, `Dim` where the numbers are not
 /// twice as many as its dimension, `Range` where one is past the limits, the box has no room on some axis, or a formula would
 /// move some cell out of the limits.
-pub fn edit_by_box<M: Meter>(
+pub fn edit_by_box<M: Meter, L: Ledger>(
     alloc: Global,
     table: &mut IndexMap<Name, Node>,
     slots: &mut Slots<M>,
@@ -145,6 +147,7 @@ pub fn edit_by_box<M: Meter>(
     edit: BoxEdit,
     name: &Name,
     nums: &Nums,
+    steps: &mut Steps<L>,
 ) -> Result<Changed, Refusal>
     requires kept { IsKept table.old.entries order.now }
     requires watched { IsWatched table.old.entries slots.old }
@@ -157,5 +160,5 @@ pub fn edit_by_box<M: Meter>(
         Ok(change) => change,
         Err(cause) => return Err(cause),
     };
-    change_input(alloc, table, slots, order, name, change)
+    change_input(alloc, table, slots, order, name, change, steps)
 }

@@ -1,7 +1,8 @@
 //! Carrying a change through the names that come later.
 
-ghost use Rattle.std.specs.Prelude.{◌≡◌, ◌↔◌, ℕ, List, true, false, OnOk, IfOk, IsErrOf, [], ◌∷◌, is_some, None, Some, cond, bytes_eq};
+ghost use Rattle.std.specs.Prelude.{◌≡◌, ◌+◌, ◌*◌, ◌≤◌, ◌↔◌, sum_by, ℕ, List, true, false, OnOk, IfOk, IsErrOf, [], ◌∷◌, is_some, None, Some, cond, bytes_eq};
 ghost use Rattle.evm_delta.specs.Shapes.{Fits, op1_dim};
+ghost use Rattle.evm_model.specs.Figures.{Figure};
 ghost use Rattle.evm_model.specs.Orders.{is_among, Ordered};
 ghost use Rattle.evm_model.specs.Scene.{dim_of};
 ghost use Rattle.evm_formulas.specs.Stated.{figure_of};
@@ -9,7 +10,9 @@ ghost use Rattle.evm_scene.specs.Tables.{node_at, reads_at, node_value, node_sta
 ghost use Rattle.evm_formulas.specs.Combined.{combine_of};
 ghost use Rattle.evm_formulas.specs.Operations.{shape_of, shape_stays};
 ghost use Rattle.evm_formulas.specs.Changes.{after_of, IsChange, IsStill, Moves};
+ghost use Rattle.evm_formulas.specs.Steps.{pair_cuts, shape_cuts};
 ghost use Rattle.evm_scene.specs.Changes.{change_at, moved, MovesNode, IsCarried, IsCarriedTo, IsHalted, AllChange};
+ghost use Rattle.evm_scene.specs.Works.{IsOutcome, IsMoving, AllMove, node_cost, cost};
 
 use super::formulas::solid_of;
 use super::node::Node;
@@ -20,12 +23,14 @@ use evm_formulas::operations::{Operation, operation_of};
 use evm_formulas::solids::is_none;
 use evm_rows::NoMemory;
 use evm_script::Name;
+use evm_steps::Steps;
 use evm_tiles::Tiles;
 use indexmap::IndexMap;
 use std::alloc::Global;
+use std::sync::ledger::Ledger;
 
 /// How a Boolean of two names changes with them, or none where it does not. `own` is its solid.
-fn both_moved(
+fn both_moved<L: Ledger>(
     alloc: Global,
     table: &IndexMap<Name, Node>,
     pending: &IndexMap<Name, Change>,
@@ -33,6 +38,7 @@ fn both_moved(
     own: &Tiles,
     a: &Name,
     b: &Name,
+    steps: &mut Steps<L>,
 ) -> Result<Option<Change>, NoMemory>
     requires sized { AllSized table.now.entries }
     requires changes { AllChange table.now.entries pending.now.entries }
@@ -48,6 +54,17 @@ fn both_moved(
         (moved table.now.entries pending.now.entries b.now)) }
     ensures change { IfOk result (λ c. IsChange c (figure_of own.now)) }
     ensures moves { IfOk result (λ c. Moves c (figure_of own.now)) }
+
+    // Whatever it answers.
+    ensures few { steps.new
+        ≤ steps.old
+        + 6
+        * (1
+        + pair_cuts (kept table.now.entries a.now)
+        (moved table.now.entries pending.now.entries a.now) (kept table.now.entries b.now)
+        (moved table.now.entries pending.now.entries b.now)) }
+    ensures still { change_at pending.now.entries a.now ≡ None
+        → change_at pending.now.entries b.now ≡ None → steps.new ≡ steps.old }
 {
     both_changed(
         alloc,
@@ -57,18 +74,20 @@ fn both_moved(
         pending.get(a),
         solid_of(table, b),
         pending.get(b),
+        steps,
     )
 }
 
 /// How a shape of a name changes with it, or none where it does not. `own` is its solid. It is `Range` exactly where the shape
 /// moves some cell out of the limits.
-fn shape_moved(
+fn shape_moved<L: Ledger>(
     alloc: Global,
     table: &IndexMap<Name, Node>,
     pending: &IndexMap<Name, Change>,
     op: &Op1,
     own: &Tiles,
     a: &Name,
+    steps: &mut Steps<L>,
 ) -> Result<Option<Change>, DeltaError>
     requires sized { AllSized table.now.entries }
     requires changes { AllChange table.now.entries pending.now.entries }
@@ -84,21 +103,32 @@ fn shape_moved(
     ensures moves { IfOk result (λ c. Moves c (figure_of own.now)) }
     ensures range { IsErrOf result DeltaError.Range
         ↔ (shape_stays op.now (moved table.now.entries pending.now.entries a.now) ≡ false) }
+
+    // Whatever it answers.
+    ensures few { steps.new
+        ≤ steps.old
+        + 6
+        * (1
+        + shape_cuts op.now (kept table.now.entries a.now)
+        (moved table.now.entries pending.now.entries a.now)) }
+    ensures still { change_at pending.now.entries a.now ≡ None → steps.new ≡ steps.old }
 {
-    one_changed(alloc, op, own, solid_of(table, a), pending.get(a))
+    one_changed(alloc, op, own, solid_of(table, a), pending.get(a), steps)
 }
 
 /// How a name changes where its operands do, or none where it does not. It is `Range` exactly where its formula moves some
 /// cell out of the limits.
-fn change_of(
+fn change_of<L: Ledger>(
     alloc: Global,
     table: &IndexMap<Name, Node>,
     pending: &IndexMap<Name, Change>,
     name: &Name,
+    steps: &mut Steps<L>,
 ) -> Result<Option<Change>, DeltaError>
     requires sized { AllSized table.now.entries }
     requires fixed { AllFixed table.now.entries }
     requires changes { AllChange table.now.entries pending.now.entries }
+    requires moving { AllMove table.now.entries pending.now.entries }
     requires stays { node_stays (node_at table.now.entries name.now) (kept table.now.entries)
         ≡ true }
     ensures after { IfOk result
@@ -110,6 +140,12 @@ fn change_of(
     ensures range { IsErrOf result DeltaError.Range
         ↔ (node_stays (node_at table.now.entries name.now)
         (moved table.now.entries pending.now.entries) ≡ false) }
+
+    // Whatever it answers: no step where no operand has a change.
+    ensures few { steps.new
+        ≤ steps.old
+        + node_cost (node_at table.now.entries name.now) (kept table.now.entries)
+        (moved table.now.entries pending.now.entries) }
 {
     let Some(node) = table.get(name) else {
         return Ok(None);
@@ -119,23 +155,33 @@ fn change_of(
     };
     match operation_of(&formula, node.dim) {
         Operation::Both { op, a, b } => {
-            Ok(both_moved(alloc, table, pending, op, &node.solid, &a, &b)?)
+            Ok(both_moved(alloc, table, pending, op, &node.solid, &a, &b, steps)?)
         }
-        Operation::Shape { op, a } => shape_moved(alloc, table, pending, &op, &node.solid, &a),
+        Operation::Shape { op, a } => shape_moved(
+            alloc,
+            table,
+            pending,
+            &op,
+            &node.solid,
+            &a,
+            steps,
+        ),
         Operation::Block { .. } => Ok(None),
     }
 }
 
 /// Makes the change of a name, where there is one. It is `Range` only where its formula moves some cell out of the limits.
-fn carry_to(
+fn carry_to<L: Ledger>(
     alloc: Global,
     table: &IndexMap<Name, Node>,
     name: &Name,
     pending: &mut IndexMap<Name, Change>,
+    steps: &mut Steps<L>,
 ) -> Result<(), DeltaError>
     requires sized { AllSized table.now.entries }
     requires fixed { AllFixed table.now.entries }
     requires changes { AllChange table.now.entries pending.old.entries }
+    requires moving { AllMove table.now.entries pending.old.entries }
     requires stays { node_stays (node_at table.now.entries name.now) (kept table.now.entries)
         ≡ true }
     requires first { change_at pending.old.entries name.now ≡ None }
@@ -144,8 +190,14 @@ fn carry_to(
     ensures range { IsErrOf result DeltaError.Range
         → node_stays (node_at table.now.entries name.now)
         (moved table.now.entries pending.old.entries) ≡ false }
+
+    // Whatever it answers: no step where no operand has a change.
+    ensures few { steps.new
+        ≤ steps.old
+        + node_cost (node_at table.now.entries name.now) (kept table.now.entries)
+        (moved table.now.entries pending.old.entries) }
 {
-    match change_of(alloc, table, pending, name)? {
+    match change_of(alloc, table, pending, name, steps)? {
         Some(change) => Ok(put(pending, name, change)?),
         None => Ok(()),
     }
@@ -153,7 +205,8 @@ fn carry_to(
 
 /// Whether the change of a name leaves it as it is.
 fn is_still(pending: &IndexMap<Name, Change>, name: &Name) -> bool
-    ensures { result ≡ true → IsStill (change_at pending.now.entries name.now) }
+    ensures still { result ≡ true → IsStill (change_at pending.now.entries name.now) }
+    ensures moves { result ≡ false → IsMoving (change_at pending.now.entries name.now) }
 {
     match pending.get(name) {
         Some(change) => is_none(&change.delta),
@@ -166,13 +219,14 @@ fn is_still(pending: &IndexMap<Name, Change>, name: &Name) -> bool
 /// `front` are the names before it in the order: they do not change. Where the name's own change leaves it as it is, no
 /// other name is looked at; else each later name is looked at once, and a change is made where an operand has one. It is
 /// `Range` only where the formula of such a name moves some cell out of the limits, and the name is the first of those.
-fn carry(
+fn carry<L: Ledger>(
     alloc: Global,
     table: &IndexMap<Name, Node>,
     front: &[Name],
     name: &Name,
     later: &[Name],
     pending: &mut IndexMap<Name, Change>,
+    steps: &mut Steps<L>,
 ) -> Result<(), DeltaError>
     requires sized { AllSized table.now.entries }
     requires fixed { AllFixed table.now.entries }
@@ -190,13 +244,20 @@ fn carry(
         (IsCarried table.now.entries front.now name.now pending.old.entries pending.new.entries) }
     ensures halted { IsErrOf result DeltaError.Range
         → IsHalted table.now.entries name.now pending.old.entries }
+
+    // Whatever it answers, at any values that follow the formulas: no step where the name's own change leaves it as it is, or at a
+    // later name whose operands have no change.
+    ensures few { (V : List ℕ → Figure)
+        → IsOutcome table.now.entries name.now
+        (moved table.now.entries pending.old.entries name.now) V
+        → steps.new ≤ steps.old + sum_by (cost table.now.entries V) later.now }
 {
     let _ = front;
     if is_still(pending, name) {
         return Ok(());
     }
     for x in later {
-        carry_to(alloc, table, x, pending)?;
+        carry_to(alloc, table, x, pending, steps)?;
     }
     Ok(())
 }
@@ -215,13 +276,14 @@ fn put(pending: &mut IndexMap<Name, Change>, name: &Name, change: Change) -> Res
 
 /// All changes that follow from the change of one name, its own among them, in an order in which it comes after `front` and before
 /// `later`. It is `Range` only where a formula moves some cell out of the limits.
-pub fn carried(
+pub fn carried<L: Ledger>(
     alloc: Global,
     table: &IndexMap<Name, Node>,
     front: &[Name],
     name: &Name,
     later: &[Name],
     change: Change,
+    steps: &mut Steps<L>,
 ) -> Result<IndexMap<Name, Change>, DeltaError>
     requires sized { AllSized table.now.entries }
     requires fixed { AllFixed table.now.entries }
@@ -236,9 +298,14 @@ pub fn carried(
         (λ p. IsCarried table.now.entries front.now name.now ((name.now, change) ∷ []) p.entries) }
     ensures halted { IsErrOf result DeltaError.Range
         → IsHalted table.now.entries name.now ((name.now, change) ∷ []) }
+
+    // Whatever it answers, at any values that follow the formulas.
+    ensures few { (V : List ℕ → Figure)
+        → IsOutcome table.now.entries name.now (figure_of change.after) V
+        → steps.new ≤ steps.old + sum_by (cost table.now.entries V) later.now }
 {
     let mut pending = IndexMap::new(alloc);
     put(&mut pending, name, change)?;
-    carry(alloc, table, front, name, later, &mut pending)?;
+    carry(alloc, table, front, name, later, &mut pending, steps)?;
     Ok(pending)
 }

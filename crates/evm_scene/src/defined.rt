@@ -29,18 +29,21 @@ use evm_formulas::changes::{Change, changed_to};
 use evm_meter::Meter;
 use evm_rows::{NoMemory, Solid};
 use evm_script::{Formula, Name};
+use evm_steps::Steps;
 use evm_tiles::Tiles;
 use evm_watch::Slots;
 use indexmap::{IndexMap, IndexSet};
 use std::alloc::Global;
+use std::sync::ledger::Ledger;
 
 /// A new name for a formula, where each operand but the name itself stands.
-fn make(
+fn make<L: Ledger>(
     alloc: Global,
     table: &mut IndexMap<Name, Node>,
     order: &mut Vec<Name>,
     name: Name,
     formula: Formula,
+    steps: &mut Steps<L>,
 ) -> Result<Changed, Refusal>
     requires kept { IsKept table.old.entries order.old.items }
     requires well { IsWell (scene_of table.old.entries) }
@@ -58,7 +61,7 @@ fn make(
     let Some(dim) = dim_stated(table, &formula) else {
         return Err(Refusal::Dim);
     };
-    let whole = match evaluate(alloc, table, &formula, dim) {
+    let whole = match evaluate(alloc, table, &formula, dim, steps) {
         Ok(whole) => whole,
         Err(refusal) => return Err(refusal),
     };
@@ -139,13 +142,14 @@ fn free_parts(
 
 /// All changes that follow from another solid of a formula, in an order in which it comes after its new operands. It is `Range`
 /// only where a formula moves some cell out of the limits.
-fn reformed(
+fn reformed<L: Ledger>(
     alloc: Global,
     table: &IndexMap<Name, Node>,
     order: &[Name],
     parts: &Parts,
     name: &Name,
     after: Solid,
+    steps: &mut Steps<L>,
 ) -> Result<IndexMap<Name, Change>, DeltaError>
     requires kept { IsKept table.now.entries order.now }
     requires parted { Parted
@@ -163,7 +167,15 @@ fn reformed(
         unreachable!()
     };
     let change = changed_to(alloc, solid_of(table, name), after)?;
-    carried(alloc, table, parts.front.as_slice(), name, later, change)
+    carried(
+        alloc,
+        table,
+        parts.front.as_slice(),
+        name,
+        later,
+        change,
+        steps,
+    )
 }
 
 /// Gives a name another formula and solid.
@@ -231,13 +243,14 @@ fn fitting(table: &IndexMap<Name, Node>, name: &Name, formula: &Formula) -> Opti
 
 /// Another formula under a name that stands for one. All changes are made and the meters of the watched
 /// names prepared before the first change is put in place.
-fn redefine<M: Meter>(
+fn redefine<M: Meter, L: Ledger>(
     alloc: Global,
     table: &mut IndexMap<Name, Node>,
     slots: &mut Slots<M>,
     order: &mut Vec<Name>,
     name: &Name,
     formula: Formula,
+    steps: &mut Steps<L>,
 ) -> Result<Changed, Refusal>
     requires kept { IsKept table.old.entries order.old.items }
     requires made { is_made (node_at table.old.entries name.now) ≡ true }
@@ -256,11 +269,11 @@ fn redefine<M: Meter>(
     let Some(dim) = fitting(table, name, &formula) else {
         return Err(Refusal::Dim);
     };
-    let after = match evaluate(alloc, table, &formula, dim) {
+    let after = match evaluate(alloc, table, &formula, dim, steps) {
         Ok(after) => after,
         Err(refusal) => return Err(refusal),
     };
-    let pending = match reformed(alloc, table, order.as_slice(), &parts, name, after) {
+    let pending = match reformed(alloc, table, order.as_slice(), &parts, name, after, steps) {
         Ok(pending) => pending,
         Err(e) => return Err(Refusal::from(e)),
     };
@@ -287,13 +300,14 @@ fn kind_of(table: &IndexMap<Name, Node>, name: &Name) -> Option<bool>
 }
 
 /// A name stands for a formula: a new name, or one that stood for another formula.
-pub fn define<M: Meter>(
+pub fn define<M: Meter, L: Ledger>(
     alloc: Global,
     table: &mut IndexMap<Name, Node>,
     slots: &mut Slots<M>,
     order: &mut Vec<Name>,
     name: Name,
     formula: Formula,
+    steps: &mut Steps<L>,
 ) -> Result<Changed, Refusal>
     requires kept { IsKept table.old.entries order.old.items }
     requires well { IsWell (scene_of table.old.entries) }
@@ -307,8 +321,8 @@ pub fn define<M: Meter>(
         return Err(Refusal::Name);
     }
     match kind_of(table, &name) {
-        None => make(alloc, table, order, name, formula),
+        None => make(alloc, table, order, name, formula, steps),
         Some(false) => Err(Refusal::Kind),
-        Some(true) => redefine(alloc, table, slots, order, &name, formula),
+        Some(true) => redefine(alloc, table, slots, order, &name, formula, steps),
     }
 }

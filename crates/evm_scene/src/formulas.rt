@@ -22,9 +22,11 @@ use evm_formulas::shapes::shape;
 use evm_formulas::solids::combine;
 use evm_rows::{NoMemory, Solid};
 use evm_script::{Formula, Name, Operands};
+use evm_steps::Steps;
 use evm_tiles::Tiles;
 use indexmap::IndexMap;
 use std::alloc::Global;
+use std::sync::ledger::Ledger;
 
 /// Whether an operand is another name than the one that is being made, and does not stand.
 fn is_lacking(table: &IndexMap<Name, Node>, name: &Name, operand: &Name) -> bool
@@ -140,12 +142,13 @@ pub fn solid_of<'a>(table: &'a IndexMap<Name, Node>, name: &Name) -> &'a Tiles
 }
 
 /// A Boolean of the solids of two names.
-fn both(
+fn both<L: Ledger>(
     alloc: Global,
     table: &IndexMap<Name, Node>,
     op: Op2,
     a: &Name,
     b: &Name,
+    steps: &mut Steps<L>,
 ) -> Result<Solid, NoMemory>
     requires sized { AllSized table.now.entries }
     requires first { is_some (node_at table.now.entries a.now) ≡ true }
@@ -157,12 +160,18 @@ fn both(
         ≡ combine_of op (kept table.now.entries a.now) (kept table.now.entries b.now)) }
     ensures dim { IfOk result (λ s. s.dim ≡ dim_of (scene_of table.now.entries) a.now) }
 {
-    combine(alloc, op, solid_of(table, a), solid_of(table, b))
+    combine(alloc, op, solid_of(table, a), solid_of(table, b), steps)
 }
 
 /// A shape of the solid of a name. It is `Range` only where the shape moves some cell out of the limits, and a solid only where it
 /// moves none.
-fn one(alloc: Global, table: &IndexMap<Name, Node>, op: &Op1, a: &Name) -> Result<Solid, DeltaError>
+fn one<L: Ledger>(
+    alloc: Global,
+    table: &IndexMap<Name, Node>,
+    op: &Op1,
+    a: &Name,
+    steps: &mut Steps<L>,
+) -> Result<Solid, DeltaError>
     requires sized { AllSized table.now.entries }
     requires stands { is_some (node_at table.now.entries a.now) ≡ true }
     requires fits { Fits op.now (dim_of (scene_of table.now.entries) a.now) }
@@ -174,18 +183,19 @@ fn one(alloc: Global, table: &IndexMap<Name, Node>, op: &Op1, a: &Name) -> Resul
     ensures range { IsErrOf result DeltaError.Range
         → shape_stays op.now (kept table.now.entries a.now) ≡ false }
 {
-    shape(alloc, op, solid_of(table, a))
+    shape(alloc, op, solid_of(table, a), steps)
 }
 
 /// The solid of a formula whose operands stand and which fits them, in its dimension, which is given.
 ///
 /// It is `Range` only where a number that it states is out of its limits, or it moves some cell out of them, and a solid only where
 /// neither holds. Takes memory for the rows of its operands, and for the answer.
-pub fn evaluate(
+pub fn evaluate<L: Ledger>(
     alloc: Global,
     table: &IndexMap<Name, Node>,
     formula: &Formula,
     dim: usize,
+    steps: &mut Steps<L>,
 ) -> Result<Solid, Refusal>
     requires sized { AllSized table.now.entries }
     requires present { (o : List ℕ) → is_among o (operands formula.now) ≡ true
@@ -199,8 +209,8 @@ pub fn evaluate(
         return Err(Refusal::Range);
     }
     match operation_of(formula, dim) {
-        Operation::Both { op, a, b } => Ok(both(alloc, table, op, &a, &b)?),
-        Operation::Shape { op, a } => Ok(one(alloc, table, &op, &a)?),
+        Operation::Both { op, a, b } => Ok(both(alloc, table, op, &a, &b, steps)?),
+        Operation::Shape { op, a } => Ok(one(alloc, table, &op, &a, steps)?),
         Operation::Block { nums } => box_of(alloc, dim, &nums),
     }
 }

@@ -23,9 +23,11 @@ use evm_delta::DeltaError;
 use evm_formulas::changes::Change;
 use evm_meter::Meter;
 use evm_script::Name;
+use evm_steps::Steps;
 use evm_watch::Slots;
 use indexmap::IndexMap;
 use std::alloc::Global;
+use std::sync::ledger::Ledger;
 
 /// The place of a name in an order.
 fn place(order: &[Name], name: &Name) -> usize
@@ -55,12 +57,13 @@ pub fn around<'a>(order: &'a [Name], name: &Name) -> (&'a [Name], &'a [Name])
 
 /// All changes that follow from the change of one name, its own among them. It is `Range` only where a formula moves some cell
 /// out of the limits.
-pub fn changes(
+pub fn changes<L: Ledger>(
     alloc: Global,
     table: &IndexMap<Name, Node>,
     order: &[Name],
     name: &Name,
     change: Change,
+    steps: &mut Steps<L>,
 ) -> Result<IndexMap<Name, Change>, DeltaError>
     requires kept { IsKept table.now.entries order.now }
     requires stands { is_some (node_at table.now.entries name.now) ≡ true }
@@ -71,7 +74,7 @@ pub fn changes(
         → IsHalted table.now.entries name.now ((name.now, change) ∷ []) }
 {
     let (front, later) = around(order, name);
-    let pending = carried(alloc, table, front, name, later, change)?;
+    let pending = carried(alloc, table, front, name, later, change, steps)?;
     Ok(pending)
 }
 
@@ -97,13 +100,14 @@ fn put_in_place(
 /// All changes are made and the meters of the watched names prepared before the first change is put in place, so a failure leaves
 /// the table and all readings as they are. It is `Range` only where
 /// some formula of the scene with the other solid would move a cell out of the limits.
-fn set_input<M: Meter>(
+fn set_input<M: Meter, L: Ledger>(
     alloc: Global,
     table: &mut IndexMap<Name, Node>,
     slots: &mut Slots<M>,
     order: &[Name],
     name: &Name,
     change: Change,
+    steps: &mut Steps<L>,
 ) -> Result<usize, DeltaError>
     requires kept { IsKept table.old.entries order.now }
     requires stands { is_some (node_at table.old.entries name.now) ≡ true }
@@ -126,7 +130,7 @@ fn set_input<M: Meter>(
     ensures watched { StaysWatched table.new.entries slots.old slots.new }
 {
     let _names = table.len();
-    let pending = changes(alloc, table, order, name, change)?;
+    let pending = changes(alloc, table, order, name, change, steps)?;
     prepare(alloc, table, slots, &pending)?;
     let names = put_in_place(table, pending, name);
     slots.commit();
@@ -136,13 +140,14 @@ fn set_input<M: Meter>(
 /// Makes the change of an input that was planned for an edit, and changes each name that reads it.
 ///
 /// It is `Range` exactly where a formula would move some cell out of the limits, or `NoMemory`, and nothing is changed then.
-pub fn change_input<M: Meter>(
+pub fn change_input<M: Meter, L: Ledger>(
     alloc: Global,
     table: &mut IndexMap<Name, Node>,
     slots: &mut Slots<M>,
     order: &[Name],
     name: &Name,
     change: Change,
+    steps: &mut Steps<L>,
 ) -> Result<Changed, Refusal>
     requires kept { IsKept table.old.entries order.now }
     requires stands { is_some (node_at table.old.entries name.now) ≡ true }
@@ -154,7 +159,7 @@ pub fn change_input<M: Meter>(
         → Applies result (scene_of table.old.entries) (scene_of table.new.entries) edit }
     ensures watched { StaysWatched table.new.entries slots.old slots.new }
 {
-    match set_input(alloc, table, slots, order, name, change) {
+    match set_input(alloc, table, slots, order, name, change, steps) {
         Ok(names) => Ok(Changed { names }),
         Err(e) => Err(Refusal::from(e)),
     }

@@ -17,9 +17,11 @@ use evm_formulas::changes::{Change, changed_to};
 use evm_meter::Meter;
 use evm_rows::Solid;
 use evm_script::Name;
+use evm_steps::Steps;
 use evm_watch::Slots;
 use indexmap::IndexMap;
 use std::alloc::Global;
+use std::sync::ledger::Ledger;
 
 /// The change of an input to another solid, or why there is none.
 fn planned(
@@ -52,13 +54,14 @@ fn planned(
 ///
 /// Refused in this order: `Name` where the name does not stand, `Kind` where it is a formula, `Dim` where the solid is of
 /// another dimension, `Range` where a formula would move some cell out of the limits. The solid is dropped then.
-pub fn replace<M: Meter>(
+pub fn replace<M: Meter, L: Ledger>(
     alloc: Global,
     table: &mut IndexMap<Name, Node>,
     slots: &mut Slots<M>,
     order: &[Name],
     name: &Name,
     solid: Solid,
+    steps: &mut Steps<L>,
 ) -> Result<Changed, Refusal>
     requires kept { IsKept table.old.entries order.now }
     requires watched { IsWatched table.old.entries slots.old }
@@ -71,5 +74,5 @@ pub fn replace<M: Meter>(
         Ok(change) => change,
         Err(cause) => return Err(cause),
     };
-    change_input(alloc, table, slots, order, name, change)
+    change_input(alloc, table, slots, order, name, change, steps)
 }

@@ -4,7 +4,9 @@ use super::*;
 use evm_meter::StockMeter;
 use evm_rows::Solid;
 use evm_script::{Formula, Name, Num, Nums};
+use evm_steps::Steps;
 use std::alloc::Global;
+use std::sync::ledger::{Blank, Brand};
 use std::test::*;
 
 /// A name.
@@ -12,9 +14,15 @@ fn name(bytes: &[u8]) -> Result<Name, Fail> {
     Ok(Name::of(bytes).ok_or("name")?)
 }
 
+/// A counter of steps, which counts nothing.
+fn counter() -> Steps<Brand> {
+    Steps::start(Blank::new(1))
+}
+
 /// Makes an edit that is not refused, and answers how many names changed.
 fn edited(scene: &mut Scene<StockMeter>, alloc: Global, edit: Edit) -> Result<usize, Fail> {
-    let done = scene.apply(alloc, edit).ok().ok_or("refused")?;
+    let mut steps = counter();
+    let done = scene.apply(alloc, edit, &mut steps).ok().ok_or("refused")?;
     Ok(done.names)
 }
 
@@ -91,6 +99,9 @@ fn tells_what_stands(rt: HostRuntime) -> Result<(), Fail> {
     let (dim, input) = (2, false);
     assert_eq!(rt; scene.entry(&name_m), Some(Entry { dim, input }));
     let dropped = Edit::Drop { name: name(b"a")? };
-    assert_eq!(rt; scene.apply(rt.alloc(), dropped), Err(Refusal::Used));
+    assert_eq!(rt;
+        scene.apply(rt.alloc(), dropped, &mut counter()),
+        Err(Refusal::Used)
+    );
     Ok(())
 }

@@ -8,7 +8,7 @@ use Rattle.evm_scene.proofs.Views.{kept_is_value}
 use Rattle.evm_scene.proofs.defined.make.Goals as goal
 
 pub returns-then-names-clause-applies : goal.returns-then-names-clause-applies
-returns-then-names-clause-applies c =
+returns-then-names-clause-applies g c =
     let t = c.args.table.now.entries in (
       refused_cycle (scene_of t) c.args.name c.args.formula c.requires.present (no_input t c.args.name c.args.formula c.requires.well c.requires.fresh c.requires.present)
           (cycle_itself t c.args.name c.args.formula c.requires.well c.requires.fresh c.requires.present ∙ sym c.names.ensures ∙ c.if-names.true),
@@ -16,7 +16,7 @@ returns-then-names-clause-applies c =
     )
 
 pub returns-in_default-clause-applies : goal.returns-in_default-clause-applies
-returns-in_default-clause-applies c =
+returns-in_default-clause-applies g c =
     let t = c.args.table.now.entries in (
       refused_dim (scene_of t) c.args.name c.args.formula c.requires.present (no_input t c.args.name c.args.formula c.requires.well c.requires.fresh c.requires.present)
           (no_cycle t c.args.name c.args.formula c.requires.well c.requires.fresh c.requires.present (sym c.names.ensures ∙ c.if-names.false))
@@ -25,11 +25,11 @@ returns-in_default-clause-applies c =
     )
 
 pub evaluate-requires-clause-present : goal.evaluate-requires-clause-present
-evaluate-requires-clause-present c =
+evaluate-requires-clause-present g c =
     operand_present c.args.table.now.entries c.args.name c.args.formula c.requires.well c.requires.fresh c.requires.present (sym c.names.ensures ∙ c.if-names.false)
 
 pub returns-in-Err-clause-applies : goal.returns-in-Err-clause-applies
-returns-in-Err-clause-applies c =
+returns-in-Err-clause-applies g c =
     let t = c.args.table.now.entries in
     unmade c.in-Err.refusal (scene_of t) c.args.formula (kept t) (IsValue c.in-Some.dim c.args.formula (kept t)) _ c.in-Err.ensures
     (λ h. refused_range (scene_of t) c.args.name c.args.formula c.requires.present (no_input t c.args.name c.args.formula c.requires.well c.requires.fresh c.requires.present)
@@ -40,16 +40,16 @@ returns-in-Err-clause-applies c =
     ∙ h))
 
 pub add-requires-clause-operands : goal.add-requires-clause-operands
-add-requires-clause-operands c =
+add-requires-clause-operands g c =
     operand_present c.args.table.now.entries c.args.name c.args.formula c.requires.well c.requires.fresh c.requires.present (sym c.names.ensures ∙ c.if-names.false)
 
 pub add-requires-clause-sized : goal.add-requires-clause-sized
-add-requires-clause-sized c =
+add-requires-clause-sized g c =
     made_sized c.args.table.now.entries c.args.name c.args.formula c.requires.well c.requires.fresh c.requires.present (sym c.names.ensures ∙ c.if-names.false)
     c.in-Some.dim c.in-Ok-from_solid.solid c.in-Some.ensures.0 c.in-Some.ensures.1 c.in-Ok.ensures.0 (ap (λ (v : Vertices). v.dim) c.in-Ok-from_solid.ensures ∙ c.in-Ok.ensures.2.1)
 
 pub returns-in-Ok-add-clause-applies : goal.returns-in-Ok-add-clause-applies
-returns-in-Ok-add-clause-applies c =
+returns-in-Ok-add-clause-applies g c =
     new_done c.args.table.now.entries c.args.name c.args.formula c.requires.well c.requires.fresh c.requires.present (sym c.names.ensures ∙ c.if-names.false)
     c.add.new.table.entries c.in-Some.dim c.in-Ok-from_solid.solid c.in-Some.ensures.0 c.in-Some.ensures.1 c.in-Ok.ensures.0
     (new_left c.args.table.now.entries c.args.name c.args.formula c.requires.well c.requires.fresh c.requires.present (sym c.names.ensures ∙ c.if-names.false)
