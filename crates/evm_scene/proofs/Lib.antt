@@ -30,3 +30,5 @@ pub mod FormulaLaws
 pub mod Reformed
 pub mod Costs
 pub mod Steps
+pub mod Sums
+pub mod Followed

@@ -1,8 +1,8 @@
 -- What refuses another figure for an input, by the table.
-use Rattle.std.proofs.Common.{◌≡◌, ℕ, ◌==◌, Bool, true, false, not, List, ◌∷◌, Option, None, Some, refl, sym, ap, subst, ◌∙◌, is_some}
+use Rattle.std.proofs.Common.{◌≡◌, ℕ, ◌==◌, Bool, true, false, not, List, [], ◌∷◌, Option, None, Some, refl, sym, ap, subst, ◌∙◌, is_some}
 use Rattle.evm_rows.specs.Rows.{Vertices}
 use Rattle.evm_model.specs.Scene.{Scene, is_input, dim_of, with_figure}
-use Rattle.evm_model.specs.Edits.{Code, Replace, Name, Kind, Dim, first_cause, value_causes, refusal, after}
+use Rattle.evm_model.specs.Edits.{Code, Replace, Name, Kind, Dim, first_cause, figure_causes, value_causes, refusal, after}
 use Rattle.evm_scene.specs.declared.node.Node.{Node}
 use Rattle.evm_formulas.specs.declared.changes.Change.{Change}
 use Rattle.evm_formulas.specs.Stated.{figure_of}
@@ -10,7 +10,7 @@ use Rattle.evm_scene.specs.Tables.{Table, node_at, node_figure, is_made, scene_o
 use Rattle.evm_formulas.specs.Changes.{IsChange}
 use Rattle.evm_scene.specs.InputEdits.{IsPlanned}
 use Rattle.evm_scene.proofs.Views.{stands_at}
-use Rattle.evm_scene.proofs.Planned.{there, made_here, wide}
+use Rattle.evm_scene.proofs.Planned.{there, made_here, wide, full_unless}
 
 -- the causes at a node
 abbrev other_code : Bool → Bool → Scene → Option Code
@@ -44,4 +44,8 @@ module _ (t : Table) (name : List ℕ) (solid : Vertices) where
       change = subst (λ (o : Option Node). IsChange (Some c) (node_figure o)) (sym at) h;
       only = code_at false true p q;
       after = ap (λ (v : Vertices). with_figure (scene_of t) name (figure_of v)) e;
+      named = refl;
+      full = full_unless (figure_causes (scene_of t) name (figure_of solid)) (scene_of t) (Replace name (figure_of solid))
+          ((λ i. first_cause ((not (there t name n at i), Name) ∷ (made_here t name n at i, Kind) ∷ (not (solid.dim == wide t name n at i), Dim) ∷ []))
+          ∙ (λ i. first_cause ((p i, Kind) ∷ (not (q i), Dim) ∷ [])));
     }

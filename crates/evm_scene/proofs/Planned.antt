@@ -1,11 +1,11 @@
 -- What refuses an edit of an input by a box, by the table.
-use Rattle.std.proofs.Common.{◌≡◌, ℕ, ◌*◌, ◌==◌, Bool, true, false, not, List, [], ◌∷◌, ◌++◌, Option, None, Some, Ok, Err, ℤ, length, refl, sym, ap, subst, ◌∙◌, is_some}
+use Rattle.std.proofs.Common.{◌≡◌, ℕ, ◌*◌, ◌==◌, Bool, true, false, not, if◌then◌else◌, List, [], ◌∷◌, ◌++◌, Option, None, Some, Ok, Err, ℤ, length, refl, sym, ap, subst, ◌∙◌, is_some}
 use Rattle.evm_delta.specs.declared.shapes.DeltaError.{DeltaError}
 use Rattle.evm_delta.specs.declared.shapes.DeltaError.TheVariants as errors
 use Rattle.evm_rows.specs.Rows.{Vertices}
 use Rattle.evm_model.specs.Figures.{Figure, box_fits, low_of, high_of, box_at}
 use Rattle.evm_model.specs.Scene.{Scene, stands, is_input, dim_of, value, with_figure, all_stay}
-use Rattle.evm_model.specs.Edits.{Edit, Code, Name, Kind, Dim, Range, first_cause, box_causes, value_causes, refusal, after, changed, changed_names, with_box}
+use Rattle.evm_model.specs.Edits.{Edit, Code, Name, Kind, Dim, Range, first_cause, name_of, box_causes, value_causes, refusal, after, changed, changed_names, with_box}
 use Rattle.evm_scene.specs.declared.node.Node.{Node}
 use Rattle.evm_formulas.specs.declared.changes.Change.{Change}
 use Rattle.evm_scene.specs.declared.edit.BoxEdit.{BoxEdit}
@@ -19,6 +19,8 @@ use Rattle.evm_scene.specs.Applied.{Applies}
 use Rattle.evm_scene.specs.Refused.{of_delta_error}
 use Rattle.evm_scene.specs.Boxes.{MakesBox}
 use Rattle.evm_scene.specs.InputEdits.{figure_by, edit_by, IsRefused, IsPlanned}
+use Rattle.evm_model.specs.Work.{work, work_unless}
+use Rattle.evm_scene.specs.Works.{whole_work}
 use Rattle.evm_scene.proofs.Views.{stands_at, dim_is, input_at, is_given}
 
 box_refusal : (edit : BoxEdit) (scene : Scene) (name : List ℕ) (nums : List ℤ) → refusal scene (edit_by edit name nums) ≡ first_cause (box_causes scene name nums ++ value_causes (after scene (edit_by edit name nums)))
@@ -30,6 +32,21 @@ box_after : (edit : BoxEdit) (scene : Scene) (name : List ℕ) (nums : List ℤ)
 box_after Toggle scene name nums = refl
 box_after Add scene name nums = refl
 box_after Cut scene name nums = refl
+
+box_named : (edit : BoxEdit) (name : List ℕ) (nums : List ℤ) → name_of (edit_by edit name nums) ≡ name
+box_named Toggle name nums = refl
+box_named Add name nums = refl
+box_named Cut name nums = refl
+
+-- where no early cause holds, all names count
+pub full_unless : (causes : List (Bool × Code)) (scene : Scene) (edit : Edit) → first_cause causes ≡ None → work_unless causes scene edit ≡ whole_work scene edit
+full_unless causes scene edit e = ap (λ (c : Option Code). if is_some c then 0 else whole_work scene edit) e
+
+box_full : (edit : BoxEdit) (scene : Scene) (name : List ℕ) (nums : List ℤ) → first_cause (box_causes scene name nums) ≡ None
+    → work scene (edit_by edit name nums) ≡ whole_work scene (edit_by edit name nums)
+box_full Toggle scene name nums e = full_unless (box_causes scene name nums) scene (edit_by Toggle name nums) e
+box_full Add scene name nums e = full_unless (box_causes scene name nums) scene (edit_by Add name nums) e
+box_full Cut scene name nums e = full_unless (box_causes scene name nums) scene (edit_by Cut name nums) e
 
 twice : (m : Bool) → not (not m) ≡ m
 twice true = refl
@@ -83,6 +100,11 @@ module _ (edit : BoxEdit) (t : Table) (name : List ℕ) (nums : List ℤ) where
     box_refused p q why.Range h = code_at false true false p q h
     box_refused p q why.NoMemory h = tt
 
+    no_cause : is_some n.formula ≡ false → (length nums == 2 * n.dim) ≡ true → box_fits (low_of n.dim nums) (high_of n.dim nums) ≡ true → first_cause (box_causes (scene_of t) name nums) ≡ None
+    no_cause p q o =
+        (λ i. first_cause ((not (there t name n at i), Name) ∷ (made_here t name n at i, Kind) ∷ (not (length nums == 2 * wide t name n at i), Dim) ∷ (not (box_fits (low_of (wide t name n at i) nums) (high_of (wide t name n at i) nums)), Range) ∷ []))
+        ∙ (λ i. first_cause ((p i, Kind) ∷ (not (q i), Dim) ∷ (not (o i), Range) ∷ []))
+
     pub plan : (made : Vertices) (c : Change) → ((x : List ℕ) → kept t x ≡ value (scene_of t) x) → is_some n.formula ≡ false → (length nums == 2 * n.dim) ≡ true → MakesBox (Ok made) n.dim nums
         → figure_of c.after ≡ figure_by edit (figure_of n.solid) (figure_of made) → IsChange (Some c) (figure_of n.solid) → IsPlanned t name (edit_by edit name nums) c
     plan made c values p q box e h = record {
@@ -96,6 +118,8 @@ module _ (edit : BoxEdit) (t : Table) (name : List ℕ) (nums : List ℤ) where
           ∙ ap (λ (f : Figure). figure_by edit f (box_at n.dim nums)) (ap node_figure (sym at) ∙ values name)
           ∙ ap (λ (m : ℕ). figure_by edit (value (scene_of t) name) (box_at m nums)) (sym (wide t name n at)))
           ∙ sym (box_after edit (scene_of t) name nums);
+      named = box_named edit name nums;
+      full = box_full edit (scene_of t) name nums (no_cause p q box.0);
     }
 
 -- an edit that was planned, and made, or refused by the scene that it would leave

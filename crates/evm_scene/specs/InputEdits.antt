@@ -3,9 +3,11 @@ use Rattle.std.specs.Prelude.{ℕ, ◌≡◌, true, false, ℤ, List, Some, is_s
 use Rattle.evm_model.specs.Figures.{Figure, xor_of, or_of, sub_of}
 use Rattle.evm_model.specs.Scene.{Scene, with_figure}
 use Rattle.evm_model.specs.Edits as model
+use Rattle.evm_model.specs.Work.{work}
 use Rattle.evm_formulas.specs.Stated.{figure_of}
 use Rattle.evm_scene.specs.Tables.{Table, node_at, kept, is_made, scene_of}
 use Rattle.evm_formulas.specs.Changes.{IsChange}
+use Rattle.evm_scene.specs.Works.{whole_work}
 use Rattle.evm_formulas.specs.declared.changes.Change.{Change}
 use Rattle.evm_scene.specs.declared.edit.BoxEdit.{BoxEdit}
 use Rattle.evm_scene.specs.declared.edit.BoxEdit.TheVariants.{Toggle, Add, Cut}
@@ -42,3 +44,5 @@ pub record IsPlanned (t : Table) (name : List ℕ) (edit : model.Edit) (c : Chan
   pub change : IsChange (Some c) (kept t name)
   pub only : model.refusal (scene_of t) edit ≡ model.first_cause (model.value_causes (model.after (scene_of t) edit))
   pub after : with_figure (scene_of t) name (figure_of c.after) ≡ model.after (scene_of t) edit
+  pub named : model.name_of edit ≡ name
+  pub full : work (scene_of t) edit ≡ whole_work (scene_of t) edit

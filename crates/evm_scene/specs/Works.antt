@@ -6,7 +6,8 @@ use Rattle.evm_cells.specs.Sections.{cuts}
 use Rattle.evm_script.specs.declared.formula.Formula.{Formula}
 use Rattle.evm_model.specs.Figures.{Figure}
 use Rattle.evm_model.specs.Scene.{Scene, Entry, Made, operands, value}
-use Rattle.evm_model.specs.Work.{change_between, operand_cuts, is_moved, what_cuts}
+use Rattle.evm_model.specs.Edits.{Edit, after}
+use Rattle.evm_model.specs.Work.{change_between, operand_cuts, is_moved, what_cuts, entry_work}
 use Rattle.evm_formulas.specs.declared.changes.Change.{Change}
 use Rattle.evm_formulas.specs.Stated.{figure_of}
 use Rattle.evm_formulas.specs.Changes.{IsChange, Moves}
@@ -53,6 +54,10 @@ entry_cost name old new e =
 -- how many steps the changes of all names but the edited one take at most, from one scene to another
 abbrev pub follow_cost : List ℕ → Scene → Scene → ℕ
 follow_cost name old new = sum_by (entry_cost name (value old) (value new)) new.entries
+
+-- the work of an edit that no early cause refuses
+abbrev pub whole_work : Scene → Edit → ℕ
+whole_work scene edit = sum_by (entry_work edit (value scene) (value (after scene edit))) (after scene edit).entries
 
 -- how many steps a formula takes at most where it is evaluated anew: the cuts of its operands
 abbrev pub figure_cuts : Figure → ℕ

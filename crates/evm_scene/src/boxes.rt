@@ -1,8 +1,9 @@
 //! Edits of inputs by boxes.
 
-ghost use Rattle.std.specs.Prelude.{◌≡◌, ◌*◌, ℕ, List, length, true, Some, IfOk, MatchResult};
+ghost use Rattle.std.specs.Prelude.{◌≡◌, ◌+◌, ◌*◌, ◌≤◌, ℕ, List, length, true, Some, IfOk, MatchResult};
 ghost use Rattle.evm_model.specs.Figures.{box_fits, low_of, high_of, box_at, clip_of, xor_of};
 ghost use Rattle.evm_model.specs.Scene.{value};
+ghost use Rattle.evm_model.specs.Work.{work};
 ghost use Rattle.evm_formulas.specs.Stated.{figure_of};
 ghost use Rattle.evm_scene.specs.Tables.{kept, scene_of, AllSized};
 ghost use Rattle.evm_scene.specs.Watched.{IsWatched, StaysWatched};
@@ -155,6 +156,10 @@ pub fn edit_by_box<M: Meter, L: Ledger>(
     ensures applies { Applies result (scene_of table.old.entries) (scene_of table.new.entries)
         (edit_by edit name.now nums.now) }
     ensures watched { StaysWatched table.new.entries slots.old slots.new }
+
+    // Whatever it answers.
+    ensures few { steps.new
+        ≤ steps.old + work (scene_of table.old.entries) (edit_by edit name.now nums.now) }
 {
     let change = match planned(alloc, table, edit, name, nums) {
         Ok(change) => change,

@@ -1,6 +1,6 @@
 //! Formulas over the names of a table: their operands, dimensions and solids.
 
-ghost use Rattle.std.specs.Prelude.{◌≡◌, ◌≤◌, ◌↔◌, ℕ, List, true, false, is_some, IfOk, IsErrOf, MatchOption};
+ghost use Rattle.std.specs.Prelude.{◌≡◌, ◌+◌, ◌≤◌, ◌↔◌, ℕ, List, true, false, is_some, IfOk, IsErrOf, MatchOption};
 ghost use Rattle.evm_delta.specs.Shapes.{Fits, op1_dim};
 ghost use Rattle.evm_model.specs.Orders.{is_among};
 ghost use Rattle.evm_model.specs.Scene.{operands, dim_of, formula_fits, formula_dim, formula_in_range};
@@ -10,6 +10,7 @@ ghost use Rattle.evm_scene.specs.Tables.{node_at, kept, scene_of, AllSized};
 ghost use Rattle.evm_formulas.specs.Combined.{combine_of};
 ghost use Rattle.evm_formulas.specs.Operations.{shape_of, shape_stays};
 ghost use Rattle.evm_scene.specs.Definitions.{is_missing, IsMade, IsValue};
+ghost use Rattle.evm_scene.specs.Works.{figure_cuts, formula_cuts};
 
 use super::edit::Refusal;
 use super::node::Node;
@@ -159,6 +160,11 @@ fn both<L: Ledger>(
         (λ s. figure_of s
         ≡ combine_of op (kept table.now.entries a.now) (kept table.now.entries b.now)) }
     ensures dim { IfOk result (λ s. s.dim ≡ dim_of (scene_of table.now.entries) a.now) }
+
+    // Whatever it answers.
+    ensures few { steps.new
+        ≤ steps.old
+        + (figure_cuts (kept table.now.entries a.now) + figure_cuts (kept table.now.entries b.now)) }
 {
     combine(alloc, op, solid_of(table, a), solid_of(table, b), steps)
 }
@@ -182,6 +188,9 @@ fn one<L: Ledger>(
     ensures stays { IfOk result (λ _. shape_stays op.now (kept table.now.entries a.now) ≡ true) }
     ensures range { IsErrOf result DeltaError.Range
         → shape_stays op.now (kept table.now.entries a.now) ≡ false }
+
+    // Whatever it answers.
+    ensures few { steps.new ≤ steps.old + figure_cuts (kept table.now.entries a.now) }
 {
     shape(alloc, op, solid_of(table, a), steps)
 }
@@ -202,8 +211,13 @@ pub fn evaluate<L: Ledger>(
         → is_some (node_at table.now.entries o) ≡ true }
     requires fits { formula_fits (scene_of table.now.entries) formula.now ≡ true }
     requires dim { dim ≡ formula_dim (scene_of table.now.entries) formula.now }
-    ensures { IsMade result (scene_of table.now.entries) formula.now (kept table.now.entries)
+    ensures made { IsMade result (scene_of table.now.entries) formula.now (kept table.now.entries)
         (IsValue dim formula.now (kept table.now.entries)) }
+
+    // Whatever it answers: a step for each cut of an operand at most, and none where a stated number is out of its limits.
+    ensures few { steps.new ≤ steps.old + formula_cuts formula.now (kept table.now.entries) }
+    ensures early { formula_in_range (scene_of table.now.entries) formula.now ≡ false
+        → steps.new ≡ steps.old }
 {
     if !in_range(table, formula) {
         return Err(Refusal::Range);

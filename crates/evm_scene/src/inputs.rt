@@ -1,10 +1,11 @@
 //! Edits of inputs.
 
-ghost use Rattle.std.specs.Prelude.{◌≡◌, ◌<◌, length, slice_index_or, ◌++◌, ◌∷◌, [], true, false, is_some, Some, IfOk, OnOk, OnErr, IsErrOf};
+ghost use Rattle.std.specs.Prelude.{◌≡◌, ◌+◌, ◌≤◌, ◌<◌, length, slice_index_or, ◌++◌, ◌∷◌, [], true, false, is_some, Some, IfOk, OnOk, OnErr, IsErrOf};
 ghost use Rattle.evm_model.specs.Orders.{is_among};
 ghost use Rattle.evm_model.specs.Scene.{with_figure, all_stay};
 ghost use Rattle.evm_model.specs.Edits as model;
 ghost use Rattle.evm_model.specs.Edits.{changed_names};
+ghost use Rattle.evm_model.specs.Work.{work};
 ghost use Rattle.evm_formulas.specs.Stated.{figure_of};
 ghost use Rattle.evm_scene.specs.Tables.{node_at, kept, is_made, scene_of};
 ghost use Rattle.evm_scene.specs.Watched.{IsWatched, StaysWatched};
@@ -13,6 +14,7 @@ ghost use Rattle.evm_formulas.specs.Changes.{IsChange};
 ghost use Rattle.evm_scene.specs.Changes.{change_at, IsCarried, IsHalted, IsPlaced};
 ghost use Rattle.evm_scene.specs.InputEdits.{IsPlanned};
 ghost use Rattle.evm_scene.specs.Applied.{Applies};
+ghost use Rattle.evm_scene.specs.Works.{follow_cost};
 
 use super::carry::carried;
 use super::commit::{commit, set_solid, take_own};
@@ -72,6 +74,12 @@ pub fn changes<L: Ledger>(
         (λ p. IsCarried table.now.entries [] name.now ((name.now, change) ∷ []) p.entries) }
     ensures halted { IsErrOf result DeltaError.Range
         → IsHalted table.now.entries name.now ((name.now, change) ∷ []) }
+
+    // Whatever it answers, by the values in the scene with the other solid.
+    ensures few { steps.new
+        ≤ steps.old
+        + follow_cost name.now (scene_of table.now.entries)
+        (with_figure (scene_of table.now.entries) name.now (figure_of change.after)) }
 {
     let (front, later) = around(order, name);
     let pending = carried(alloc, table, front, name, later, change, steps)?;
@@ -128,6 +136,12 @@ fn set_input<M: Meter, L: Ledger>(
         ≡ false }
     ensures err { OnErr result (table.new.entries ≡ table.old.entries) }
     ensures watched { StaysWatched table.new.entries slots.old slots.new }
+
+    // Whatever it answers.
+    ensures few { steps.new
+        ≤ steps.old
+        + follow_cost name.now (scene_of table.old.entries)
+        (with_figure (scene_of table.old.entries) name.now (figure_of change.after)) }
 {
     let _names = table.len();
     let pending = changes(alloc, table, order, name, change, steps)?;
@@ -158,6 +172,10 @@ pub fn change_input<M: Meter, L: Ledger>(
     ensures applies { (edit : model.Edit) → IsPlanned table.old.entries name.now edit change
         → Applies result (scene_of table.old.entries) (scene_of table.new.entries) edit }
     ensures watched { StaysWatched table.new.entries slots.old slots.new }
+
+    // Whatever it answers.
+    ensures few { (edit : model.Edit) → IsPlanned table.old.entries name.now edit change
+        → steps.new ≤ steps.old + work (scene_of table.old.entries) edit }
 {
     match set_input(alloc, table, slots, order, name, change, steps) {
         Ok(names) => Ok(Changed { names }),

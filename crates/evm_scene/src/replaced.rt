@@ -1,8 +1,9 @@
 //! Inputs that get another solid.
 
-ghost use Rattle.std.specs.Prelude.{◌≡◌, MatchResult};
+ghost use Rattle.std.specs.Prelude.{◌≡◌, ◌+◌, ◌≤◌, MatchResult};
 ghost use Rattle.evm_model.specs.Scene.{value};
 ghost use Rattle.evm_model.specs.Edits as model;
+ghost use Rattle.evm_model.specs.Work.{work};
 ghost use Rattle.evm_formulas.specs.Stated.{figure_of};
 ghost use Rattle.evm_scene.specs.Tables.{kept, scene_of, AllSized};
 ghost use Rattle.evm_scene.specs.Watched.{IsWatched, StaysWatched};
@@ -69,6 +70,11 @@ pub fn replace<M: Meter, L: Ledger>(
     ensures applies { Applies result (scene_of table.old.entries) (scene_of table.new.entries)
         (model.Replace name.now (figure_of solid)) }
     ensures watched { StaysWatched table.new.entries slots.old slots.new }
+
+    // Whatever it answers.
+    ensures few { steps.new
+        ≤ steps.old
+        + work (scene_of table.old.entries) (model.Replace name.now (figure_of solid)) }
 {
     let change = match planned(alloc, table, name, solid) {
         Ok(change) => change,
