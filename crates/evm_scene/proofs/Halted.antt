@@ -108,7 +108,7 @@ halted_from t name c p q put h = record {
 }
 
 -- the dimension of a solid that is kept
-kept_wide : (t : Table) (name : List ℕ) → NodeSized (node_at t name) (dim_at t) → is_some (node_at t name) ≡ true → (kept t name).dim ≡ dim_at t name
+pub kept_wide : (t : Table) (name : List ℕ) → NodeSized (node_at t name) (dim_at t) → is_some (node_at t name) ≡ true → (kept t name).dim ≡ dim_at t name
 kept_wide t name = by (node_at t name)
   where
     by : (n : Option Node) → NodeSized n (dim_at t) → is_some n ≡ true → (node_figure n).dim ≡ node_dim n

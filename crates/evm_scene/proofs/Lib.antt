@@ -32,3 +32,5 @@ pub mod Costs
 pub mod Steps
 pub mod Sums
 pub mod Followed
+pub mod CutCounts
+pub mod DefSteps

@@ -1,9 +1,11 @@
 //! Definitions of names.
 
-ghost use Rattle.std.specs.Prelude.{◌≡◌, ◌++◌, ◌∷◌, ℕ, List, [], true, false, is_some, Some, option_map, IfOk, IsErrOf, MatchOption};
+ghost use Rattle.std.specs.Prelude.{◌≡◌, ◌≤◌, ◌+◌, drop, sum_by, ◌++◌, ◌∷◌, ℕ, List, [], true, false, is_some, Some, option_map, IfOk, IsErrOf, MatchOption};
 ghost use Rattle.evm_model.specs.Orders.{is_among, Ordered};
 ghost use Rattle.evm_model.specs.Scene.{operands, dim_of, formula_fits, formula_dim, IsWell};
+ghost use Rattle.evm_model.specs.Figures.{Figure};
 ghost use Rattle.evm_model.specs.Edits as model;
+ghost use Rattle.evm_model.specs.Work.{work};
 ghost use Rattle.evm_model.specs.Edits.{lacks_operand, misses_dim};
 ghost use Rattle.evm_formulas.specs.Stated.{figure_of};
 ghost use Rattle.evm_scene.specs.Tables.{node_at, reads_at, kept, is_made, put_made, scene_of, AllSized, AllFixed, AllStay};
@@ -13,6 +15,7 @@ ghost use Rattle.evm_formulas.specs.Changes.{IsChange};
 ghost use Rattle.evm_scene.specs.Changes.{change_at, IsCarried, IsHalted, IsRedefined, IsStuck, IsInstalled};
 ghost use Rattle.evm_scene.specs.Definitions.{IsFree};
 ghost use Rattle.evm_scene.specs.Applied.{Applies};
+ghost use Rattle.evm_scene.specs.Works.{IsOutcome, cost};
 
 use super::added::add;
 use super::carry::carried;
@@ -54,6 +57,10 @@ fn make<L: Ledger>(
         (model.Def name formula) }
     ensures others { (x : List ℕ) → is_some (node_at table.old.entries x) ≡ true
         → node_at table.new.entries x ≡ node_at table.old.entries x }
+
+    // Whatever it answers.
+    ensures few { steps.new
+        ≤ steps.old + work (scene_of table.old.entries) (model.Def name formula) }
 {
     if names(&formula, &name) {
         return Err(Refusal::Cycle);
@@ -161,6 +168,12 @@ fn reformed<L: Ledger>(
         (figure_of after) p.entries) }
     ensures stuck { IsErrOf result DeltaError.Range
         → IsStuck table.now.entries name.now (figure_of after) }
+
+    // Whatever it answers, at any values that follow the formulas.
+    ensures few { (V : List ℕ → Figure)
+        → IsOutcome table.now.entries name.now (figure_of after) V
+        → steps.new
+        ≤ steps.old + sum_by (cost table.now.entries V) (drop 1 parts.now.reach.keys) }
 {
     let _ = order;
     let [_, later @ ..] = parts.reach.as_slice() else {
@@ -260,6 +273,10 @@ fn redefine<M: Meter, L: Ledger>(
     ensures applies { Applies result (scene_of table.old.entries) (scene_of table.new.entries)
         (model.Def name.now formula) }
     ensures watched { StaysWatched table.new.entries slots.old slots.new }
+
+    // Whatever it answers.
+    ensures few { steps.new
+        ≤ steps.old + work (scene_of table.old.entries) (model.Def name.now formula) }
 {
     let _names = table.len();
     let parts = match free_parts(alloc, table, order.as_slice(), name, &formula) {
@@ -316,6 +333,10 @@ pub fn define<M: Meter, L: Ledger>(
     ensures applies { Applies result (scene_of table.old.entries) (scene_of table.new.entries)
         (model.Def name formula) }
     ensures watched { StaysWatched table.new.entries slots.old slots.new }
+
+    // Whatever it answers.
+    ensures few { steps.new
+        ≤ steps.old + work (scene_of table.old.entries) (model.Def name formula) }
 {
     if lacks(table, &name, &formula) {
         return Err(Refusal::Name);

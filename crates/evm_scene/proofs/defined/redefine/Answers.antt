@@ -37,7 +37,7 @@ pub returns-in-Err-evaluate-clause-applies : goal.returns-in-Err-evaluate-clause
 returns-in-Err-evaluate-clause-applies g c =
     let t = c.args.table.now.entries in
     let standing = made_stands t c.args.name.now c.requires.made in
-    unmade c.in-Err-evaluate.refusal (scene_of t) c.args.formula (kept t) _ _ c.in-Err-evaluate.ensures
+    unmade c.in-Err-evaluate.refusal (scene_of t) c.args.formula (kept t) _ _ c.in-Err-evaluate.ensures.made
     (λ h. refused_range (scene_of t) c.args.name.now c.args.formula c.requires.present (made_no_input t c.args.name.now c.requires.made) c.in-Ok.ensures.0 c.in-Some.ensures.0
     (both_out (formula_in_range (scene_of t) c.args.formula) (formula_stays c.args.formula (kept t)) (all_stay (with_formula (scene_of t) c.args.name.now c.args.formula))
     (own_out t c.args.order.now.items c.args.name.now c.args.formula c.requires.kept (well_kept t c.args.order.now.items c.requires.kept c.len-names.ensures.unique)
@@ -52,30 +52,30 @@ returns-in-Err-reformed-clause-applies g c =
     (unmoved c.in-Err-reformed.e (scene_of t) (model.Def c.args.name.now c.args.formula)
     (λ (k : c.in-Err-reformed.e ≡ DeltaError.Range).
     refused_range (scene_of t) c.args.name.now c.args.formula c.requires.present (made_no_input t c.args.name.now c.requires.made) c.in-Ok.ensures.0 c.in-Some.ensures.0
-    (ap (λ (b : Bool). b && left) c.in-Ok-evaluate.ensures.0
+    (ap (λ (b : Bool). b && left) c.in-Ok-evaluate.ensures.made.0
     ∙ stuck_out t c.args.order.now.items c.args.name.now c.args.formula c.requires.kept (well_kept t c.args.order.now.items c.requires.kept c.len-names.ensures.unique)
     standing (operands_present t c.args.name.now c.args.formula standing c.requires.present) c.in-Ok.ensures.0
-    c.in-Some.ensures.1 c.in-Ok-evaluate.ensures.0 (sym c.in-Some.ensures.2 ∙ c.in-Some.ensures.3)
-    (subst (λ (g : Figure). IsStuck t c.args.name.now g) c.in-Ok-evaluate.ensures.2.0 (c.in-Err-reformed.ensures.stuck (ap Err k))))))
+    c.in-Some.ensures.1 c.in-Ok-evaluate.ensures.made.0 (sym c.in-Some.ensures.2 ∙ c.in-Some.ensures.3)
+    (subst (λ (g : Figure). IsStuck t c.args.name.now g) c.in-Ok-evaluate.ensures.made.2.0 (c.in-Err-reformed.ensures.stuck (ap Err k))))))
 
 pub returns-clause-kept : goal.returns-clause-kept
 returns-clause-kept g c =
     end_kept _ _ _ _ _ _ _ _ _ _ _ c.in-Some.dim c.in-Ok-evaluate.after c.requires.kept c.as_slice.ensures.value c.in-Ok.ensures.1
-    c.in-Ok-reformed.ensures.redefined c.in-Ok-evaluate.ensures.2.0 c.in-Ok-evaluate.ensures.1 c.install-names.ensures
-    c.requires.made c.requires.present c.in-Ok.ensures.0 c.in-Some.ensures.0 c.in-Some.ensures.1 c.in-Some.ensures.2 c.in-Some.ensures.3 c.in-Ok-evaluate.ensures.0 c.in-Ok-joined.ensures
+    c.in-Ok-reformed.ensures.redefined c.in-Ok-evaluate.ensures.made.2.0 c.in-Ok-evaluate.ensures.made.1 c.install-names.ensures
+    c.requires.made c.requires.present c.in-Ok.ensures.0 c.in-Some.ensures.0 c.in-Some.ensures.1 c.in-Some.ensures.2 c.in-Some.ensures.3 c.in-Ok-evaluate.ensures.made.0 c.in-Ok-joined.ensures
 
 pub returns-clause-applies : goal.returns-clause-applies
 returns-clause-applies g c =
     end_applies _ _ _ _ _ _ c.in-Ok-joined.whole.items _ _ _ _ c.in-Some.dim c.in-Ok-evaluate.after c.requires.kept c.as_slice.ensures.value c.in-Ok.ensures.1
-    c.in-Ok-reformed.ensures.redefined c.in-Ok-evaluate.ensures.2.0 c.in-Ok-evaluate.ensures.1 c.install-names.ensures
-    c.requires.made c.requires.present c.in-Ok.ensures.0 c.in-Some.ensures.0 c.in-Some.ensures.1 c.in-Some.ensures.2 c.in-Some.ensures.3 c.in-Ok-evaluate.ensures.0 c.len-names.ensures.unique
+    c.in-Ok-reformed.ensures.redefined c.in-Ok-evaluate.ensures.made.2.0 c.in-Ok-evaluate.ensures.made.1 c.install-names.ensures
+    c.requires.made c.requires.present c.in-Ok.ensures.0 c.in-Some.ensures.0 c.in-Some.ensures.1 c.in-Some.ensures.2 c.in-Some.ensures.3 c.in-Ok-evaluate.ensures.made.0 c.len-names.ensures.unique
 
 pub returns-clause-watched : goal.returns-clause-watched
 returns-clause-watched g c =
     all_committed _ _ _ _ _ _ c.requires.watched c.in-Ok-prepare.ensures.ok c.commit.ensures
     (end_values _ _ _ _ _ _ c.in-Ok-joined.whole.items _ _ _ _ c.in-Some.dim c.in-Ok-evaluate.after c.requires.kept c.as_slice.ensures.value c.in-Ok.ensures.1
-    c.in-Ok-reformed.ensures.redefined c.in-Ok-evaluate.ensures.2.0 c.in-Ok-evaluate.ensures.1 c.install-names.ensures
-    c.requires.made c.requires.present c.in-Ok.ensures.0 c.in-Some.ensures.0 c.in-Some.ensures.1 c.in-Some.ensures.2 c.in-Some.ensures.3 c.in-Ok-evaluate.ensures.0)
+    c.in-Ok-reformed.ensures.redefined c.in-Ok-evaluate.ensures.made.2.0 c.in-Ok-evaluate.ensures.made.1 c.install-names.ensures
+    c.requires.made c.requires.present c.in-Ok.ensures.0 c.in-Some.ensures.0 c.in-Some.ensures.1 c.in-Some.ensures.2 c.in-Some.ensures.3 c.in-Ok-evaluate.ensures.made.0)
     (end_stands _ _ _ _ _ _ c.in-Ok-joined.whole.items _ _ _ _ c.in-Some.dim c.in-Ok-evaluate.after c.requires.kept c.as_slice.ensures.value c.in-Ok.ensures.1
-    c.in-Ok-reformed.ensures.redefined c.in-Ok-evaluate.ensures.2.0 c.in-Ok-evaluate.ensures.1 c.install-names.ensures
-    c.requires.made c.requires.present c.in-Ok.ensures.0 c.in-Some.ensures.0 c.in-Some.ensures.1 c.in-Some.ensures.2 c.in-Some.ensures.3 c.in-Ok-evaluate.ensures.0)
+    c.in-Ok-reformed.ensures.redefined c.in-Ok-evaluate.ensures.made.2.0 c.in-Ok-evaluate.ensures.made.1 c.install-names.ensures
+    c.requires.made c.requires.present c.in-Ok.ensures.0 c.in-Some.ensures.0 c.in-Some.ensures.1 c.in-Some.ensures.2 c.in-Some.ensures.3 c.in-Ok-evaluate.ensures.made.0)
