@@ -176,8 +176,8 @@ module _ (t : Table) (order : List (List ℕ)) (name : List ℕ) (f : Formula) (
   standing_few =
       made_few t order name f k (well_kept t order k names) (operands_present t name f (made_stands t name made) full) full (made_no_input t name made) open_end hit fits
 
-  pub reformed_few : (front reach : List (List ℕ)) → Parted (reads_at t) order name front reach [] → (figure : Figure) → figure ≡ formula_value f (kept t) → formula_in_range (scene_of t) f ≡ true → (s m r : ℕ)
+  pub reformed_few : (o2 front reach : List (List ℕ)) → o2 ≡ order → Parted (reads_at t) o2 name front reach [] → (figure : Figure) → figure ≡ formula_value f (kept t) → formula_in_range (scene_of t) f ≡ true → (s m r : ℕ)
       → m ≤ s + formula_cuts f (kept t) → ((V : List ℕ → Figure) → IsOutcome t name figure V → r ≤ m + sum_by (cost t V) (drop 1 reach)) → r ≤ s + work (scene_of t) (model.Def name f)
-  reformed_few front reach parted =
+  reformed_few o2 front reach eo parted =
       redefined_few t order name f k (well_kept t order k names) (operands_present t name f (made_stands t name made) full) full (made_no_input t name made) open_end hit fits
-      (made_stands t name made) front reach parted
+      (made_stands t name made) front reach (subst (λ (l : List (List ℕ)). Parted (reads_at t) l name front reach []) eo parted)

@@ -12,6 +12,8 @@ use Rattle.evm_scene.proofs.Wells.{well_kept}
 use Rattle.evm_scene.proofs.Stuck.{own_out, stuck_out, both_out}
 use Rattle.evm_scene.proofs.Reformed.{unfree, unmoved, end_kept, end_stands, end_values, end_applies, made_stands, made_no_input, operands_present}
 use Rattle.evm_scene.proofs.Watching.{all_committed}
+use Rattle.evm_formulas.specs.Stated.{figure_of}
+use Rattle.evm_scene.proofs.DefSteps.{standing_few, reformed_few}
 use Rattle.evm_scene.proofs.defined.redefine.Goals as goal
 
 pub free_parts-requires-clause-present : goal.free_parts-requires-clause-present
@@ -79,3 +81,32 @@ returns-clause-watched g c =
     (end_stands _ _ _ _ _ _ c.in-Ok-joined.whole.items _ _ _ _ c.in-Some.dim c.in-Ok-evaluate.after c.requires.kept c.as_slice.ensures.value c.in-Ok.ensures.1
     c.in-Ok-reformed.ensures.redefined c.in-Ok-evaluate.ensures.made.2.0 c.in-Ok-evaluate.ensures.made.1 c.install-names.ensures
     c.requires.made c.requires.present c.in-Ok.ensures.0 c.in-Some.ensures.0 c.in-Some.ensures.1 c.in-Some.ensures.2 c.in-Some.ensures.3 c.in-Ok-evaluate.ensures.made.0)
+
+pub returns-in-Err-evaluate-clause-few : goal.returns-in-Err-evaluate-clause-few
+returns-in-Err-evaluate-clause-few g c =
+    standing_few c.args.table.now.entries c.args.order.now.items c.args.name.now c.args.formula c.requires.kept c.len-names.ensures.unique c.requires.made c.requires.present
+    c.in-Ok.ensures.0 c.in-Some.ensures.0 c.in-Some.ensures.1 _ _ c.evaluate.ensures.few c.evaluate.ensures.early
+
+pub returns-in-Err-reformed-clause-few : goal.returns-in-Err-reformed-clause-few
+returns-in-Err-reformed-clause-few g c =
+    reformed_few c.args.table.now.entries c.args.order.now.items c.args.name.now c.args.formula c.requires.kept c.len-names.ensures.unique c.requires.made c.requires.present
+    c.in-Ok.ensures.0 c.in-Some.ensures.0 c.in-Some.ensures.1 _ c.in-Ok.parts.front.items c.in-Ok.parts.reach.keys c.as_slice.ensures.value c.in-Ok.ensures.1
+    (figure_of c.in-Ok-evaluate.after) c.in-Ok-evaluate.ensures.made.2.0 c.in-Ok-evaluate.ensures.made.0 _ _ _ c.evaluate.ensures.few c.reformed.ensures.few
+
+pub returns-in_default-joined-clause-few : goal.returns-in_default-joined-clause-few
+returns-in_default-joined-clause-few g c =
+    reformed_few c.args.table.now.entries c.args.order.now.items c.args.name.now c.args.formula c.requires.kept c.len-names.ensures.unique c.requires.made c.requires.present
+    c.in-Ok.ensures.0 c.in-Some.ensures.0 c.in-Some.ensures.1 _ c.in-Ok.parts.front.items c.in-Ok.parts.reach.keys c.as_slice.ensures.value c.in-Ok.ensures.1
+    (figure_of c.in-Ok-evaluate.after) c.in-Ok-evaluate.ensures.made.2.0 c.in-Ok-evaluate.ensures.made.0 _ _ _ c.evaluate.ensures.few c.reformed.ensures.few
+
+pub returns-in_default-prepare-clause-few : goal.returns-in_default-prepare-clause-few
+returns-in_default-prepare-clause-few g c =
+    reformed_few c.args.table.now.entries c.args.order.now.items c.args.name.now c.args.formula c.requires.kept c.len-names.ensures.unique c.requires.made c.requires.present
+    c.in-Ok.ensures.0 c.in-Some.ensures.0 c.in-Some.ensures.1 _ c.in-Ok.parts.front.items c.in-Ok.parts.reach.keys c.as_slice.ensures.value c.in-Ok.ensures.1
+    (figure_of c.in-Ok-evaluate.after) c.in-Ok-evaluate.ensures.made.2.0 c.in-Ok-evaluate.ensures.made.0 _ _ _ c.evaluate.ensures.few c.reformed.ensures.few
+
+pub returns-clause-few : goal.returns-clause-few
+returns-clause-few g c =
+    reformed_few c.args.table.now.entries c.args.order.now.items c.args.name.now c.args.formula c.requires.kept c.len-names.ensures.unique c.requires.made c.requires.present
+    c.in-Ok.ensures.0 c.in-Some.ensures.0 c.in-Some.ensures.1 _ c.in-Ok.parts.front.items c.in-Ok.parts.reach.keys c.as_slice.ensures.value c.in-Ok.ensures.1
+    (figure_of c.in-Ok-evaluate.after) c.in-Ok-evaluate.ensures.made.2.0 c.in-Ok-evaluate.ensures.made.0 _ _ _ c.evaluate.ensures.few c.reformed.ensures.few
