@@ -34,3 +34,4 @@ pub mod Sums
 pub mod Followed
 pub mod CutCounts
 pub mod DefSteps
+pub mod SlotWork

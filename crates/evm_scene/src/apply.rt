@@ -1,5 +1,7 @@
 //! Edits of a scene.
 
+ghost use Rattle.std.specs.Prelude.{◌+◌, ◌≤◌};
+ghost use Rattle.evm_model.specs.Work.{work};
 ghost use Rattle.evm_scene.specs.Applied.{Applies, edit_view};
 
 use super::added::input;
@@ -21,13 +23,20 @@ impl<M: Meter> Scene<M> {
     /// `Refusal`, or `NoMemory`, which may come at any edit. Takes memory for the change of each name that changes, and for what of
     /// its tree the change meets, and of each watched name that changes for what is near its change. Another solid of an input or
     /// formula, and a new formula, take the rows of the solid before, of the operands and of the solid after as well.
+    ///
+    /// A step is one combination of two sections, at a height of the first axis at which a solid changes. Steps are taken for the
+    /// formulas that have a changed operand, near the changes of their operands, and for the cuts of the operands of a new formula.
+    /// Exclusive ors and windows of solids take none, so edits by a box and other solids take none at their own name.
     pub fn apply<L: Ledger>(
         &mut self,
         alloc: Global,
         edit: Edit,
         steps: &mut Steps<L>,
     ) -> Result<Changed, Refusal>
-        ensures { Applies result self.old self.new (edit_view edit) }
+        ensures applies { Applies result self.old self.new (edit_view edit) }
+
+        // Whatever it answers.
+        ensures few { steps.new ≤ steps.old + work self.old (edit_view edit) }
     {
         self.facts();
         match edit {
