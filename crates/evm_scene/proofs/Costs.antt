@@ -1,5 +1,5 @@
 -- The steps of one name, from those of what its formula does.
-use Rattle.std.proofs.Common.{◌≡◌, ℕ, ◌+◌, ◌*◌, ◌≤◌, ◌==◌, Bool, true, false, not, ◌||◌, if◌then◌else◌, List, [], ◌∷◌, Option, None, Some, ℤ, pos, negsuc, refl, sym, ap, subst, ◌∙◌, bytes_eq, nat_abs, arith}
+use Rattle.std.proofs.Common.{◌≡◌, ℕ, ◌+◌, ◌*◌, ◌≤◌, ◌==◌, Bool, true, false, not, if◌then◌else◌, List, [], ◌∷◌, Option, None, Some, ℤ, pos, negsuc, refl, sym, ap, subst, ◌∙◌, nat_abs, arith}
 use Rattle.std.specs.List.{list_any}
 use Rattle.std.specs.Ordering.{int_eq}
 use Rattle.std.proofs.lemmas.Bool.{false≢true}
@@ -10,19 +10,17 @@ use Rattle.evm_cells.specs.Limits.{IsCellSet}
 use Rattle.evm_cells.specs.Vertices.{cells}
 use Rattle.evm_cells.specs.Heights.{cut_count, spanned_cut_count}
 use Rattle.evm_cells.specs.Booleans.{xor_cells}
-use Rattle.evm_cells.proofs.Coords.{eq_is, eq_yes, le_is}
+use Rattle.evm_cells.proofs.Coords.{eq_is, eq_yes}
 use Rattle.evm_cells.proofs.Order.{same_tests, refuted}
-use Rattle.evm_cells.proofs.Xor.{and_first}
 use Rattle.evm_boolean.specs.declared.boolean.Op2.{Op2}
 use Rattle.evm_delta.specs.declared.shapes.Op1.{Op1}
-use Rattle.evm_delta.specs.declared.shapes.Op1.TheVariants as shapes
 use Rattle.evm_script.specs.declared.formula.Formula.{Formula}
 use Rattle.evm_script.specs.declared.formula.Formula.TheVariants.{Or, And, Sub, Xor, Box, Shift, Mirror, Swap, Clip, Slice, Proj, Lift}
 use Rattle.evm_model.specs.Figures.{Figure, nothing, xor_of, same_figure}
 use Rattle.evm_model.specs.Orders.{is_among}
 use Rattle.evm_model.specs.Scene.{Made, operands, is_axis}
 use Rattle.evm_model.specs.Work.{change_between, sets_of, changes_of, dim_of_first, operand_cuts, joins_sections, is_moved}
-use Rattle.evm_model.proofs.Names.{by_test, among_here, among_later, any_among, or_none}
+use Rattle.evm_model.proofs.Names.{among_here, among_later, any_among, or_none}
 use Rattle.evm_model.proofs.FigureLaws.{same_itself}
 use Rattle.evm_formulas.specs.declared.operations.Operation.{Operation}
 use Rattle.evm_formulas.specs.declared.operations.Operation.TheVariants as does

@@ -3,7 +3,6 @@ use Rattle.std.proofs.Common.{◌≡◌, ℕ, ◌+◌, ◌*◌, ◌≤◌, Bool,
 use Rattle.std.specs.List.{IsDistinct}
 use Rattle.std.specs.Map.{keys_of}
 use Rattle.std.proofs.lemmas.List.Sums.{sum_by-cons}
-use Rattle.evm_rows.specs.Rows.{Vertices}
 use Rattle.evm_script.specs.declared.formula.Formula.{Formula}
 use Rattle.evm_model.specs.Figures.{Figure}
 use Rattle.evm_model.specs.Orders.{is_among, Ordered}
@@ -11,15 +10,14 @@ use Rattle.evm_model.specs.Scene.{Scene, Entry, Made, entry_of, entry_operands, 
 use Rattle.evm_model.specs.Edits as model
 use Rattle.evm_model.specs.Edits.{Code, first_cause, def_causes, lacks_operand, closes_cycle, misses_dim}
 use Rattle.evm_model.specs.Work.{made_cuts, own_cuts, work, entry_work, work_at, is_moved, what_cuts}
-use Rattle.evm_model.proofs.Names.{by_name, by_test, name_itself, not_both, or_none, or_right, passes_none, among_here, among_later}
+use Rattle.evm_model.proofs.Names.{by_name, by_test, name_itself, or_none, or_right, passes_none, among_here, among_later}
 use Rattle.evm_model.proofs.Lookups.{with_own, length-with, push_own}
 use Rattle.evm_model.proofs.Levels.{formula_same}
 use Rattle.evm_model.proofs.Stays.{at_formula, value_stays}
 use Rattle.evm_formulas.specs.Stated.{operand_dim}
-use Rattle.evm_scene.specs.declared.node.Node.{Node}
-use Rattle.evm_scene.specs.Tables.{Table, node_at, reads_at, node_figure, node_dim, kept, is_made, entries_of, scene_of}
+use Rattle.evm_scene.specs.Tables.{Table, node_at, reads_at, kept, is_made, entries_of, scene_of}
 use Rattle.evm_scene.specs.Orders.{IsKept, Parted}
-use Rattle.evm_scene.specs.Works.{IsOutcome, cost, entry_cost, follow_cost, whole_work, figure_cuts, formula_cuts}
+use Rattle.evm_scene.specs.Works.{IsOutcome, cost, entry_cost, follow_cost, figure_cuts, formula_cuts}
 use Rattle.evm_scene.proofs.Views.{stands_at, operands_at, order_kept, kept_is_value}
 use Rattle.evm_scene.proofs.Halted.{kept_wide}
 use Rattle.evm_scene.proofs.FormulaLaws.{formula_sized}

@@ -1,26 +1,26 @@
 -- The steps of carrying a change, by the scene that an edit leaves.
-use Rattle.std.proofs.Common.{◌≡◌, ℕ, ◌+◌, ◌*◌, ◌≤◌, Bool, true, false, if◌then◌else◌, List, [], ◌∷◌, ◌++◌, Option, None, Some, refl, sym, ap, ap₂, subst, ◌∙◌, is_some, length, sum_by, bytes_eq, arith}
+use Rattle.std.proofs.Common.{◌≡◌, ℕ, ◌+◌, ◌*◌, ◌≤◌, Bool, true, false, if◌then◌else◌, List, [], ◌∷◌, ◌++◌, Option, None, Some, refl, sym, ap, subst, ◌∙◌, is_some, sum_by, bytes_eq, arith}
 use Rattle.std.specs.Prelude.{option_map}
 use Rattle.std.proofs.lemmas.List.Sums.{sum_by-le-sum_by}
 use Rattle.evm_rows.specs.Rows.{Vertices}
 use Rattle.evm_script.specs.declared.formula.Formula.{Formula}
 use Rattle.evm_model.specs.Figures.{Figure}
 use Rattle.evm_model.specs.Orders.{is_among, Ordered}
-use Rattle.evm_model.specs.Scene.{Scene, Entry, entry_of, entry_operands, operands_of, entry_value, stands, value, with_figure, given_entry, IsOrderOf}
+use Rattle.evm_model.specs.Scene.{Scene, Entry, entry_of, entry_operands, operands_of, entry_value, value, with_figure, given_entry, IsOrderOf}
 use Rattle.evm_model.specs.Edits.{Edit, name_of, after}
 use Rattle.evm_model.specs.Work.{is_moved, what_cuts, own_cuts, edited_cuts, work, work_at, entry_work}
-use Rattle.evm_model.proofs.Names.{by_name, by_test, among_none, among-append, apart_back, or_right}
+use Rattle.evm_model.proofs.Names.{by_name, among_none, among-append, apart_back, or_right}
 use Rattle.evm_model.proofs.Lookups.{with_own, with_other, with_stands, length-with}
 use Rattle.evm_model.proofs.Levels.{value_step}
-use Rattle.evm_model.proofs.Counts.{AllDiffer, ordered_differ}
+use Rattle.evm_model.proofs.Counts.{ordered_differ}
 use Rattle.evm_formulas.specs.declared.changes.Change.{Change}
 use Rattle.evm_formulas.specs.Stated.{figure_of}
 use Rattle.evm_scene.specs.declared.node.Node.{Node}
-use Rattle.evm_scene.specs.Tables.{Table, node_at, reads_at, kept, dim_at, NodeSized, what_of, entry_view, entries_of, scene_of}
+use Rattle.evm_scene.specs.Tables.{Table, node_at, reads_at, kept, what_of, entry_view, entries_of, scene_of}
 use Rattle.evm_scene.specs.Orders.{IsKept}
 use Rattle.evm_scene.specs.InputEdits.{IsPlanned}
-use Rattle.evm_scene.specs.Works.{IsOutcome, made_cost, node_cost, cost, entry_cost, follow_cost, whole_work}
-use Rattle.evm_scene.proofs.Views.{entry_at, stands_at, operands_at, value_at, some_node, order_kept, kept_is_value}
+use Rattle.evm_scene.specs.Works.{IsOutcome, made_cost, node_cost, cost, entry_cost, follow_cost}
+use Rattle.evm_scene.proofs.Views.{entry_at, stands_at, value_at, some_node, order_kept, kept_is_value}
 use Rattle.evm_scene.proofs.Splits.{cut_rest}
 use Rattle.evm_scene.proofs.Sums.{Reaches, sum_keys}
 

@@ -1,5 +1,5 @@
 -- Scenes with slots: they are well, edits apply to them, and what their slots read.
-use Rattle.std.proofs.Common.{◌≡◌, ℕ, zero, suc, false, cond, List, [], ◌∷◌, map, Option, None, Some, Result, Ok, Err, ℤ, pos, refl, sym, ap, subst, ◌∙◌, true≢false, slice_get, bytes_eq, int_lt, arith}
+use Rattle.std.proofs.Common.{◌≡◌, ℕ, zero, suc, false, cond, List, [], ◌∷◌, map, None, Some, Result, Ok, Err, ℤ, pos, refl, sym, ap, subst, ◌∙◌, true≢false, slice_get, bytes_eq, int_lt, arith}
 use Rattle.std.specs.List.{list_any, IsDistinct}
 use Rattle.std.specs.Map.{keys_of}
 use Rattle.std.proofs.lemmas.Int.{ints as int_facts}

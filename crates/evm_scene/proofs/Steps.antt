@@ -1,14 +1,14 @@
 -- The steps of a walk that carries a change.
-use Rattle.std.proofs.Common.{◌≡◌, ℕ, ◌+◌, ◌<◌, ◌≤◌, Bool, true, false, List, Option, None, Some, refl, sym, ap, subst, ◌∙◌, take, drop, get_or, length, sum_by, bytes_eq, arith}
+use Rattle.std.proofs.Common.{◌≡◌, ℕ, ◌+◌, ◌<◌, ◌≤◌, Bool, true, false, List, Option, None, Some, refl, sym, ap, subst, take, drop, get_or, length, sum_by, bytes_eq, arith}
 use Rattle.std.proofs.lemmas.List.Sums.{sum_by_more, sum_by-take-le}
 use Rattle.evm_model.specs.Figures.{Figure}
 use Rattle.evm_model.proofs.Names.{same_name}
-use Rattle.evm_formulas.specs.Changes.{IsChange, Moves}
+use Rattle.evm_formulas.specs.Changes.{Moves}
 use Rattle.evm_formulas.specs.declared.changes.Change.{Change}
 use Rattle.evm_scene.specs.declared.node.Node.{Node}
 use Rattle.evm_scene.specs.Tables.{Table, node_at, kept, node_figure}
 use Rattle.evm_scene.specs.Changes.{Pending, change_at, moved, MovesNode}
-use Rattle.evm_scene.specs.Works.{IsOutcome, IsMoving, MovesCells, AllMove, node_cost, cost}
+use Rattle.evm_scene.specs.Works.{IsOutcome, IsMoving, AllMove, node_cost, cost}
 use Rattle.evm_scene.proofs.Nodes.{node_set}
 use Rattle.evm_scene.proofs.Costs.{moves_cells, node_cost_same}
 use Rattle.evm_scene.proofs.Walks.{Walk, walk_at}

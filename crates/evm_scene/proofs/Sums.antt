@@ -1,9 +1,9 @@
 -- Sums over the entries of a scene.
-use Rattle.std.proofs.Common.{◌≡◌, ℕ, ◌+◌, ◌≤◌, Bool, true, false, cond, List, [], ◌∷◌, Option, None, Some, refl, sym, ap, ◌∙◌, sum_by, bytes_eq, arith}
+use Rattle.std.proofs.Common.{◌≡◌, ℕ, ◌+◌, ◌≤◌, Bool, true, false, cond, List, [], ◌∷◌, Some, refl, sym, ap, ◌∙◌, sum_by, arith}
 use Rattle.std.proofs.lemmas.List.Sums.{sum_by-cons, sum_by-le-sum_by}
 use Rattle.evm_model.specs.Orders.{is_among}
 use Rattle.evm_model.specs.Scene.{Entry, has_name, entry_of, without_entry}
-use Rattle.evm_model.proofs.Names.{by_test, name_sym, among_here, among_later, apart}
+use Rattle.evm_model.proofs.Names.{name_sym, among_here, among_later, apart}
 use Rattle.evm_model.proofs.Lookups.{same_entry, no_some, without_other}
 use Rattle.evm_model.proofs.Counts.{AllDiffer}
 
