@@ -1,12 +1,15 @@
 //! A scene through each of its calls, with values worked out by hand. Whole scripts are run by the program's tests.
 
+ghost use Rattle.std.specs.Prelude.{◌≡◌, ◌<◌};
+
 use super::*;
 use evm_meter::StockMeter;
 use evm_rows::Solid;
 use evm_script::{Formula, Name, Num, Nums};
 use evm_steps::Steps;
 use std::alloc::Global;
-use std::sync::ledger::{Blank, Brand};
+use std::marker::Brand;
+use std::sync::ledger::{Blank, Ledger};
 use std::test::*;
 
 /// A name.
@@ -14,15 +17,29 @@ fn name(bytes: &[u8]) -> Result<Name, Fail> {
     Ok(Name::of(bytes).ok_or("name")?)
 }
 
-/// A counter of steps, which counts nothing.
-fn counter() -> Steps<Brand> {
-    Steps::start(Blank::new(1))
+/// Makes an edit, with a counter of its own.
+fn counted<L: Ledger>(
+    scene: &mut Scene<StockMeter>,
+    alloc: Global,
+    edit: Edit,
+    blank: Blank,
+) -> Result<Changed, Refusal>
+    requires name { blank.name ≡ L.name }
+    requires parts { blank.parts ≡ L.parts }
+    requires some { 0 < L.parts }
+{
+    let mut steps = Steps::<L>::start(blank);
+    scene.apply(alloc, edit, &mut steps)
+}
+
+/// Makes an edit.
+fn applied(scene: &mut Scene<StockMeter>, alloc: Global, edit: Edit) -> Result<Changed, Refusal> {
+    counted::<Brand>(scene, alloc, edit, Blank::new(1))
 }
 
 /// Makes an edit that is not refused, and answers how many names changed.
 fn edited(scene: &mut Scene<StockMeter>, alloc: Global, edit: Edit) -> Result<usize, Fail> {
-    let mut steps = counter();
-    let done = scene.apply(alloc, edit, &mut steps).ok().ok_or("refused")?;
+    let done = applied(scene, alloc, edit).ok().ok_or("refused")?;
     Ok(done.names)
 }
 
@@ -100,7 +117,7 @@ fn tells_what_stands(rt: HostRuntime) -> Result<(), Fail> {
     assert_eq!(rt; scene.entry(&name_m), Some(Entry { dim, input }));
     let dropped = Edit::Drop { name: name(b"a")? };
     assert_eq!(rt;
-        scene.apply(rt.alloc(), dropped, &mut counter()),
+        applied(&mut scene, rt.alloc(), dropped),
         Err(Refusal::Used)
     );
     Ok(())
