@@ -1,5 +1,5 @@
 -- How many cuts the operands of a formula have, by the heights that a definition looks at.
-use Rattle.std.proofs.Common.{◌≡◌, ℕ, zero, suc, ◌+◌, ◌-◌, ◌*◌, ◌≤◌, Bool, true, false, not, ◌||◌, if◌then◌else◌, List, [], ◌∷◌, map, length, ℤ, pos, neg_ℤ, ◌+ℤ◌, sym, ap, ◌∙◌, count_by, sum_by, arith}
+use Rattle.std.proofs.Common.{◌≡◌, ℕ, zero, suc, ◌+◌, ◌-◌, ◌*◌, ◌≤◌, Bool, true, false, not, ◌||◌, List, [], ◌∷◌, map, length, ℤ, pos, neg_ℤ, ◌+ℤ◌, sym, ap, ◌∙◌, count_by, sum_by, arith}
 use Rattle.std.specs.List.{list_any}
 use Rattle.std.proofs.lemmas.Int.{ints as int_facts}
 use Rattle.std.proofs.lemmas.List.Sums.{length-filter, sum_by-cons}
@@ -7,6 +7,7 @@ use Rattle.evm_cells.specs.Places.{is_empty}
 use Rattle.evm_cells.specs.Limits.{limit, ints, point_coords}
 use Rattle.evm_cells.specs.Sections.{couplet, cuts}
 use Rattle.evm_cells.specs.Heights.{is_cut, is_cut_of}
+use Rattle.evm_cells.proofs.Coords.{limit-falls}
 use Rattle.evm_script.specs.declared.formula.Formula.{Formula}
 use Rattle.evm_model.specs.Figures.{Figure}
 use Rattle.evm_model.specs.Formulas.{Parts, Both, Block, Shaped, parts_of, parts_operands}
@@ -47,15 +48,15 @@ count_wider p l m h =
       count_longer p (neg_ℤ (pos m)) (2 * l + 1 + (m - l)) (2 * m + 1) (omega (arith, h)),
     )
 
+limit_deeper : (n : ℕ) → limit (suc (suc n)) ≤ limit 2
+limit_deeper zero = omega arith
+limit_deeper (suc n) = omega (arith, limit-falls (suc (suc n)), limit_deeper n)
+
 limit_most : (n : ℕ) → limit n ≤ limit 2
 unfolding limit
-limit_most n = by _ _ _
-  where
-    by : (a b c : Bool) → (if a then 1073741824 else if b then 268435456 else if c then 4194304 else 524288) ≤ 1073741824
-    by true b c = omega arith
-    by false true c = omega arith
-    by false false true = omega arith
-    by false false false = omega arith
+limit_most zero = omega arith
+limit_most (suc zero) = omega arith
+limit_most (suc (suc n)) = limit_deeper n
 
 count_points : (p : ℤ → Bool) (n : ℕ) → count_by p (point_coords n) ≤ count_by p (point_coords 2)
 unfolding point_coords

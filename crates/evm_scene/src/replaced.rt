@@ -64,8 +64,8 @@ pub fn replace<M: Meter, L: Ledger>(
     solid: Solid,
     steps: &mut Steps<L>,
 ) -> Result<Changed, Refusal>
-    requires kept { IsKept table.old.entries order.now }
     requires watched { IsWatched table.old.entries slots.old }
+    requires kept { IsKept table.old.entries order.now }
     ensures kept { IsKept table.new.entries order.now }
     ensures applies { Applies result (scene_of table.old.entries) (scene_of table.new.entries)
         (model.Replace name.now (figure_of solid)) }
