@@ -33,11 +33,7 @@ fn make_counted<M: Meter, L: Ledger>(
 }
 
 /// Makes an edit. Its steps are counted by nobody.
-fn make<M: Meter>(
-    scene: &mut Scene<M>,
-    alloc: Global,
-    edit: Edit,
-) -> Result<Changed, SceneRefusal>
+fn make<M: Meter>(scene: &mut Scene<M>, alloc: Global, edit: Edit) -> Result<Changed, SceneRefusal>
     ensures { Applies result scene.old scene.new (edit_view edit) }
 {
     make_counted::<M, Brand>(scene, alloc, edit, Blank::new(1))
