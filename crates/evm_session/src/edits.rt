@@ -10,7 +10,7 @@ ghost use Rattle.evm_session.specs.Carried.{Carries};
 use super::refusals::Refusal;
 use super::replies::{put_number, reserve_number};
 use evm_meter::Meter;
-use evm_scene::{Changed, Edit, Refusal as SceneRefusal, Scene};
+use evm_scene::{Edit, Scene};
 use evm_steps::Steps;
 use std::alloc::Global;
 use std::marker::Brand;
@@ -22,7 +22,7 @@ fn make_counted<M: Meter, L: Ledger>(
     alloc: Global,
     edit: Edit,
     blank: Blank,
-) -> Result<Changed, SceneRefusal>
+) -> Result<evm_scene::Changed, evm_scene::Refusal>
     requires name { blank.name ≡ L.name }
     requires parts { blank.parts ≡ L.parts }
     requires some { 0 < L.parts }
@@ -33,7 +33,11 @@ fn make_counted<M: Meter, L: Ledger>(
 }
 
 /// Makes an edit. Its steps are counted by nobody.
-fn make<M: Meter>(scene: &mut Scene<M>, alloc: Global, edit: Edit) -> Result<Changed, SceneRefusal>
+fn make<M: Meter>(
+    scene: &mut Scene<M>,
+    alloc: Global,
+    edit: Edit,
+) -> Result<evm_scene::Changed, evm_scene::Refusal>
     ensures { Applies result scene.old scene.new (edit_view edit) }
 {
     make_counted::<M, Brand>(scene, alloc, edit, Blank::new(1))

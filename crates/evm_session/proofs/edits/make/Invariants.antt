@@ -1,4 +1,4 @@
 use Rattle.evm_session.proofs.edits.make.Given as goal
 
-abbrev pub ghosts-make_counted-L-Ledger : goal.ghosts-make_counted-L-Ledger
-ghosts-make_counted-L-Ledger g a = record { name = a.blank.name; parts = a.blank.parts }
+abbrev pub ghosts-make_counted : goal.ghosts-make_counted
+ghosts-make_counted g a = record { name = a.blank.name; parts = a.blank.parts }
