@@ -1,24 +1,24 @@
 -- What two boxes share, and the bases of boxes.
-use Rattle.std.proofs.Common.{◌≡◌, ℕ, zero, suc, ◌+◌, ◌-◌, ◌<◌, ◌≤◌, ◌≤ℤ◌, ◌<ℤ◌, Bool, true, false, ◌&&◌, ◌||◌, List, [], ◌∷◌, ◌++◌, length, take, drop, get_or, set, ℤ, pos, neg_ℤ, ◌-ℤ◌, int_le, int_lt, int_eq, refl, sym, ap, ap₂, ◌∙◌, subst, arith, length-take, ◌≢◌, below_more}
+use Rattle.std.proofs.Common.{◌≡◌, ℕ, zero, suc, ◌+◌, ◌-◌, ◌<◌, ◌≤◌, ◌≤ℤ◌, ◌<ℤ◌, Bool, true, false, ◌&&◌, ◌||◌, List, [], ◌∷◌, length, take, drop, get_or, set, ℤ, pos, int_le, int_lt, refl, sym, ap, ap₂, ◌∙◌, subst, arith, ◌≢◌, below_more}
 use Rattle.std.specs.Int.{int_min, int_max}
-use Rattle.std.specs.List.{list_all, All}
-use Rattle.std.proofs.lemmas.Bool.{false≢true, true≢false}
+use Rattle.std.specs.List.{list_all}
+use Rattle.std.proofs.lemmas.Bool.{false≢true}
 use Rattle.std.proofs.lemmas.Int.{ints as int_facts}
-use Rattle.std.proofs.lemmas.List.{get_or-take, get_or-set_same, get_or-set_other, length-set}
+use Rattle.std.proofs.lemmas.List.{get_or-set_same, get_or-set_other, length-set}
 use Rattle.std.proofs.lemmas.List.Elements.{All-cons, All-nil}
 use Rattle.std.proofs.Math.Seq.{take-set-lt}
 use Rattle.evm_cells.specs.Places.{each}
-use Rattle.evm_cells.specs.Limits.{is_cell, is_cell_coord, is_point, is_point_coord, limit}
+use Rattle.evm_cells.specs.Limits.{is_point, is_point_coord}
 use Rattle.evm_cells.specs.Boxes.{is_box, IsBox}
 use Rattle.evm_cells.proofs.Xor.{and_first, and_second, and_both}
-use Rattle.evm_cells.proofs.Order.{same_tests, refuted}
+use Rattle.evm_cells.proofs.Order.{refuted}
 use Rattle.evm_cells.proofs.Lists.{all_weaker}
-use Rattle.evm_cells.proofs.Coords.{le_is, lt_is, le_yes, lt_yes, point_yes, cell_is, limit-some, point_coord-falls}
-use Rattle.evm_cells.proofs.Universe.{cell_parts, point_parts, point_from}
+use Rattle.evm_cells.proofs.Coords.{le_is, lt_is, le_yes, lt_yes, point_coord-falls}
+use Rattle.evm_cells.proofs.Universe.{point_parts, point_from}
 use Rattle.evm_cells.proofs.Insides.{box_lengths}
 use Rattle.evm_rows.proofs.BoxTests.{box_from}
 use Rattle.evm_boxes.specs.BoxRows.{ends_of, IsBoxRow}
-use Rattle.evm_boxes.specs.Fills.{holds, filled, low_of, high_of, base_ends, IsBase, IsAll, IsMeet}
+use Rattle.evm_boxes.specs.Fills.{holds, low_of, high_of, base_ends, IsBase, IsMeet, IsInside}
 use Rattle.evm_boxes.specs.declared.BoxRow.{BoxRow}
 use Rattle.evm_boxes.proofs.Cuts.{Fits, fits, each_under, each_over, each_here, each_length, moved_high, moved_low, box_of, max_over, max_right, max_at, min_under, min_right, min_at}
 use Rattle.evm_boxes.proofs.Fills.{parts_of}
@@ -160,36 +160,38 @@ each_narrower r (x ∷ p) (y ∷ q) (z ∷ c) e w h =
     and_both (r z y) (each r c q) (w 0 (omega arith) (and_first (r z x) (each r c p) h))
     (each_narrower r p q c (omega arith) (λ i l. w (suc i) (omega arith)) (and_second (r z x) (each r c p) h))
 
-in_right : (n i : ℕ) (left right part : BoxRow) → n ≤ i → IsBoxRow n right → Meeting n i left right part → (c : List ℤ) → holds c (ends_of part) ≡ true → holds c (ends_of right) ≡ true
-in_right n i left right part l b m c h =
-    let lo = (ends_of part).lo in
-    let hi = (ends_of part).hi in
-    let los = (ends_of right).lo in
-    let his = (ends_of right).hi in
-    let (e, f) = box_lengths n lo hi m.box.box in
+-- a box between the two ends of another on each axis lies in it
+pub inside_of : (n : ℕ) (row other : BoxRow) → IsBoxRow n row → IsBoxRow n other
+    → ((j : ℕ) → j < n → low_of j other ≤ℤ low_of j row) → ((j : ℕ) → j < n → high_of j row ≤ℤ high_of j other) → IsInside row other
+inside_of n row other a b low high c h =
+    let lo = (ends_of row).lo in
+    let hi = (ends_of row).hi in
+    let los = (ends_of other).lo in
+    let his = (ends_of other).hi in
+    let (e, f) = box_lengths n lo hi a.box in
     let (u, v) = box_lengths n los his b.box in
     and_both (each int_le los c) (each int_lt c his)
     (each_wider int_le lo los c (omega arith) (λ j k q.
-    let s : Fits n j part = fits n j part (omega arith) m.box in
-    let t : Fits n j right = fits n j right (omega arith) b in
-    let up : low_of j right ≤ℤ low_of j part = m.low j (omega arith) in
-    let a : get_or lo j (pos 0) ≤ℤ get_or c j (pos 0) = le_is (get_or lo j (pos 0)) (get_or c j (pos 0)) q in
-    let z : get_or los j (pos 0) ≤ℤ get_or lo j (pos 0) = subst (λ w. w ≤ℤ get_or lo j (pos 0)) (sym t.low_is) (subst (λ w. low_of j right ≤ℤ w) (sym s.low_is) up) in
+    let s : Fits n j row = fits n j row (omega arith) a in
+    let t : Fits n j other = fits n j other (omega arith) b in
+    let up : low_of j other ≤ℤ low_of j row = low j (omega arith) in
+    let p : get_or lo j (pos 0) ≤ℤ get_or c j (pos 0) = le_is (get_or lo j (pos 0)) (get_or c j (pos 0)) q in
+    let z : get_or los j (pos 0) ≤ℤ get_or lo j (pos 0) = subst (λ w. w ≤ℤ get_or lo j (pos 0)) (sym t.low_is) (subst (λ w. low_of j other ≤ℤ w) (sym s.low_is) up) in
     le_yes (get_or los j (pos 0)) (get_or c j (pos 0)) (omega (arith, int_facts)))
     (and_first (each int_le lo c) (each int_lt c hi) h))
     (each_narrower int_lt hi his c (omega arith) (λ j k q.
-    let s : Fits n j part = fits n j part (omega arith) m.box in
-    let t : Fits n j right = fits n j right (omega arith) b in
-    let up : high_of j part ≤ℤ high_of j right = m.high j (omega arith) in
-    let a : get_or c j (pos 0) <ℤ get_or hi j (pos 0) = lt_is (get_or c j (pos 0)) (get_or hi j (pos 0)) q in
-    let z : get_or hi j (pos 0) ≤ℤ get_or his j (pos 0) = subst (λ w. get_or hi j (pos 0) ≤ℤ w) (sym t.high_is) (subst (λ w. w ≤ℤ high_of j right) (sym s.high_is) up) in
+    let s : Fits n j row = fits n j row (omega arith) a in
+    let t : Fits n j other = fits n j other (omega arith) b in
+    let up : high_of j row ≤ℤ high_of j other = high j (omega arith) in
+    let p : get_or c j (pos 0) <ℤ get_or hi j (pos 0) = lt_is (get_or c j (pos 0)) (get_or hi j (pos 0)) q in
+    let z : get_or hi j (pos 0) ≤ℤ get_or his j (pos 0) = subst (λ w. get_or hi j (pos 0) ≤ℤ w) (sym t.high_is) (subst (λ w. w ≤ℤ high_of j other) (sym s.high_is) up) in
     lt_yes (get_or c j (pos 0)) (get_or his j (pos 0)) (omega (arith, int_facts)))
     (and_second (each int_le lo c) (each int_lt c hi) h))
 
 pub meeting_all : (n i : ℕ) (left right part : BoxRow) → n ≤ i → IsBoxRow n right → Meeting n i left right part → IsMeet n left right (part ∷ [])
 meeting_all n i left right part l b m = record {
   boxes = All-cons (IsBoxRow n) part [] m.box (All-nil (IsBoxRow n));
-  filled = λ c. or_none (holds c (ends_of part)) ∙ both (holds c (ends_of part)) (holds c (ends_of right)) (in_right n i left right part l b m c) ∙ sym (m.same c);
+  filled = λ c. or_none (holds c (ends_of part)) ∙ both (holds c (ends_of part)) (holds c (ends_of right)) (inside_of n part right m.box b (λ j k. m.low j (omega arith)) (λ j k. m.high j (omega arith)) c) ∙ sym (m.same c);
 }
   where
     both : (a r : Bool) → (a ≡ true → r ≡ true) → a ≡ (a && r)

@@ -1,20 +1,21 @@
 -- Windows round what comes or goes at a height, and the sections inside them.
-use Rattle.std.proofs.Common.{◌≡◌, ℕ, zero, suc, ◌+◌, ◌-◌, ◌<◌, ◌≤◌, ◌≤ℤ◌, ◌<ℤ◌, Bool, true, false, ◌&&◌, ◌||◌, List, [], ◌∷◌, ◌++◌, length, map, take, drop, get_or, Some, None, Option, ℤ, pos, neg_ℤ, ◌-ℤ◌, int_le, int_lt, int_eq, refl, sym, ap, ap₂, ◌∙◌, subst, arith}
+use Rattle.std.proofs.Common.{◌≡◌, ℕ, zero, suc, ◌+◌, ◌-◌, ◌<◌, ◌≤◌, ◌<ℤ◌, Bool, true, false, ◌&&◌, ◌||◌, List, [], ◌∷◌, ◌++◌, length, map, take, drop, get_or, Some, None, Option, ℤ, pos, neg_ℤ, ◌-ℤ◌, int_le, int_lt, int_eq, refl, sym, ap, ap₂, ◌∙◌, subst, arith}
 use Rattle.std.specs.List.{list_all, All}
+use Rattle.std.specs.Option.{option_to_list}
 use Rattle.std.proofs.lemmas.Bool.{false≢true, true≢false}
 use Rattle.std.proofs.lemmas.Int.{ints as int_facts}
-use Rattle.std.proofs.lemmas.List.{map-append, take_more, take_all}
+use Rattle.std.proofs.lemmas.List.{take_more, take_all}
 use Rattle.std.proofs.lemmas.List.Elements.{All-append, All-cons, All-nil, All-tail}
 use Rattle.std.proofs.lemmas.List.Folds.{list_any-append}
 use Rattle.evm_cells.specs.Booleans.{xor, xor_cells}
-use Rattle.evm_cells.specs.Places.{each, has}
-use Rattle.evm_cells.specs.Limits.{is_cell, is_cell_coord, is_point, is_point_coord, limit, IsCellSet}
+use Rattle.evm_cells.specs.Places.{each}
+use Rattle.evm_cells.specs.Limits.{is_cell, is_cell_coord, is_point_coord, limit, IsCellSet}
 use Rattle.evm_cells.specs.Boxes.{is_box}
 use Rattle.evm_cells.specs.Sections.{slice, couplet}
-use Rattle.evm_cells.specs.Unions.{Ends, union_of}
+use Rattle.evm_cells.specs.Unions.{union_of}
 use Rattle.evm_cells.specs.Vertices.{evm}
 use Rattle.evm_cells.proofs.Xor.{and_first, and_second, and_both, xor_self}
-use Rattle.evm_cells.proofs.Coords.{le_yes, lt_yes, lt_is, le_is, point_yes, cell_is, limit-some, eq_sym}
+use Rattle.evm_cells.proofs.Coords.{le_yes, lt_yes, point_yes, cell_is, limit-some, eq_sym}
 use Rattle.evm_cells.proofs.Combine.{has-xor_cells, cell_set-xor}
 use Rattle.evm_cells.proofs.Slices.{cell_set-slice}
 use Rattle.evm_cells.proofs.Universe.{same_sets, cell_parts, point_from}
@@ -22,7 +23,7 @@ use Rattle.evm_cells.proofs.Unions.{cell_set-union}
 use Rattle.evm_rows.specs.Rows.{xor_rows}
 use Rattle.evm_sections.proofs.Sections.{xor_rows-evm}
 use Rattle.evm_boxes.specs.BoxRows.{ends_of, IsBoxRow}
-use Rattle.evm_boxes.specs.Fills.{holds, filled, spans, low_of, high_of, base_ends, is_event, IsBase, IsFound, IsWindow, IsSection, IsMeet, IsAll}
+use Rattle.evm_boxes.specs.Fills.{holds, filled, spans, low_of, high_of, base_ends, is_event, IsBase, IsFound, IsWindow, IsSection, IsMeet, IsAll, IsUnheld}
 use Rattle.evm_boxes.specs.declared.BoxRow.{BoxRow}
 use Rattle.evm_boxes.proofs.Cuts.{box_of}
 use Rattle.evm_boxes.proofs.Meets.{base_box}
@@ -167,7 +168,7 @@ section_start n k window kept e = subst (IsSection n k window []) (sym e) (recor
 filled-append : (xs ys : List BoxRow) (c : List ℤ) → filled (xs ++ ys) c ≡ (filled xs c || filled ys c)
 filled-append xs ys c = list_any-append (λ (row : BoxRow). holds c (ends_of row)) xs ys
 
-pub section_more : (n : ℕ) (k : ℤ) (window : BoxRow) (rows kept part new : List BoxRow) (i : ℕ) (d : BoxRow) → i < length rows → new ≡ kept ++ part
+section_more : (n : ℕ) (k : ℤ) (window : BoxRow) (rows kept part new : List BoxRow) (i : ℕ) (d : BoxRow) → i < length rows → new ≡ kept ++ part
     → IsSection n k window (take i rows) kept → IsSection n k window (get_or rows i d ∷ []) part → IsSection n k window (take (i + 1) rows) new
 section_more n k window rows kept part new i d l e old more =
     subst (IsSection n k window (take (i + 1) rows)) (sym e) (record {
@@ -180,6 +181,20 @@ section_more n k window rows kept part new i d l e old more =
     both : (a s t : Bool) → ((a && s) || (a && t)) ≡ (a && (s || t))
     both true s t = refl
     both false s t = refl
+
+-- what is left of a part is kept
+pub section_unheld : (n : ℕ) (k : ℤ) (window : BoxRow) (rows kept new : List BoxRow) (part left : Option BoxRow) (i : ℕ) (d : BoxRow) → i < length rows → new ≡ kept ++ option_to_list left
+    → IsUnheld kept part left → IsSection n k window (take i rows) kept → IsSection n k window (get_or rows i d ∷ []) (option_to_list part) → IsSection n k window (take (i + 1) rows) new
+section_unheld n k window rows kept new part left i d l e u old more =
+    let all : IsSection n k window (take (i + 1) rows) (kept ++ option_to_list part) = section_more n k window rows kept (option_to_list part) (kept ++ option_to_list part) i d l refl old more in
+    subst (IsSection n k window (take (i + 1) rows)) (sym e) (record {
+      boxes = All-append (IsBoxRow n) kept (option_to_list left) old.boxes (of_part left u.is_part);
+      filled = λ c. u.filled c ∙ all.filled c;
+    })
+  where
+    of_part : (o : Option BoxRow) → ((row : BoxRow) → o ≡ Some row → part ≡ Some row) → All (IsBoxRow n) (option_to_list o)
+    of_part None w = All-nil (IsBoxRow n)
+    of_part (Some row) w = subst (λ o. All (IsBoxRow n) (option_to_list o)) (w row refl) more.boxes
 
 pub section_all : (n : ℕ) (k : ℤ) (window : BoxRow) (rows kept : List BoxRow) (i : ℕ) → length rows ≤ i → IsSection n k window (take i rows) kept → IsSection n k window rows kept
 section_all n k window rows kept i l s = subst (λ u. IsSection n k window u kept) (take_all i rows l) s

@@ -3,6 +3,7 @@ use Rattle.std.specs.Prelude.{◌≡◌, ℕ, ◌-◌, ◌==◌, Bool, true, fal
 use Rattle.std.specs.Int.{int_max}
 use Rattle.std.specs.List.{list_any, All, Contains}
 use Rattle.std.specs.List.Sorted.{IsStrictlySortedBy}
+use Rattle.std.specs.Option.{option_to_list}
 use Rattle.std.specs.Ordering.{int_eq, int_cmp}
 use Rattle.evm_cells.specs.Places.{each}
 use Rattle.evm_cells.specs.Limits.{is_cell}
@@ -103,3 +104,16 @@ pub record IsSection (n : ℕ) (k : ℤ) (window : BoxRow) (rows kept : List Box
 pub record IsMeet (n : ℕ) (left right : BoxRow) (parts : List BoxRow) : Type 0 where
   pub boxes : All (IsBoxRow n) parts
   pub filled : (c : List ℤ) → filled parts c ≡ (holds c (ends_of left) && holds c (ends_of right))
+
+-- each cell that the row holds, the other row holds
+abbrev pub IsInside : BoxRow → BoxRow → Type 0
+IsInside row other = (c : List ℤ) → holds c (ends_of row) ≡ true → holds c (ends_of other) ≡ true
+
+-- each cell that the row holds, some kept row holds
+abbrev pub IsHeld : BoxRow → List BoxRow → Type 0
+IsHeld row kept = (c : List ℤ) → holds c (ends_of row) ≡ true → filled kept c ≡ true
+
+-- what is left of the part is the part or none, and with it the kept rows fill the same cells as with the part
+pub record IsUnheld (kept : List BoxRow) (part left : Option BoxRow) : Type 0 where
+  pub is_part : (row : BoxRow) → left ≡ Some row → part ≡ Some row
+  pub filled : (c : List ℤ) → filled (kept ++ option_to_list left) c ≡ filled (kept ++ option_to_list part) c

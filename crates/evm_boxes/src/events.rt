@@ -7,7 +7,7 @@ ghost use Rattle.evm_cells.specs.Vertices.{evm};
 ghost use Rattle.evm_cells.specs.Unions.{union_of};
 ghost use Rattle.evm_boxes.specs.BoxRows.{ends_of, IsBoxRow};
 ghost use Rattle.evm_boxes.specs.declared.BoxRow.{BoxRow};
-ghost use Rattle.evm_boxes.specs.Fills.{spans, level_of, is_event, IsBase, IsFound, IsWindow, IsSection, IsMeet, IsAll};
+ghost use Rattle.evm_boxes.specs.Fills.{spans, level_of, is_event, IsBase, IsFound, IsWindow, IsSection, IsMeet, IsAll, IsInside, IsHeld, IsUnheld};
 
 use super::BoxRow;
 use super::cut::{Side, keep};
@@ -21,7 +21,8 @@ use std::alloc::Global;
 ///
 /// At each height the couplet is the exclusive or of the sections below and above it, and it lies within the bases of the
 /// boxes that come or go there. So the two sections are looked at inside a window alone, the base of the box that comes or
-/// goes; each is a union of boxes one dimension lower, which is answered likewise. No section is kept.
+/// goes; each is a union of boxes one dimension lower, which is answered likewise. No section is kept. A base that another
+/// holds is left out, since it adds nothing to the section, so that each recursion has fewer boxes.
 ///
 /// It takes memory for two numbers a box, for the bases in a window twice at each dimension, and for the answer. The one
 /// error is want of memory.
@@ -124,7 +125,7 @@ fn base_of(dim: usize, row: &BoxRow) -> BoxRow
 }
 
 /// The bases, inside a window, of the boxes that are just below or just above a height; the window alone, where one of
-/// them fills it.
+/// them fills it. A base that lies in one kept before is left out, so that the recursion has fewer boxes.
 fn bases_in(
     alloc: Global,
     dim: usize,
@@ -148,9 +149,53 @@ fn bases_in(
             keep(part, &mut kept)?;
             return Ok(kept);
         }
-        keep(part, &mut kept)?;
+        let left = unheld(dim - 1, part, kept.as_slice());
+        keep(left, &mut kept)?;
     }
     Ok(kept)
+}
+
+/// A box, unless one of those kept holds it.
+fn unheld(dim: usize, part: Option<BoxRow>, kept: &[BoxRow]) -> Option<BoxRow>
+    requires high { dim ≤ 6 }
+    requires part { All (IsBoxRow dim) (option_to_list part) }
+    requires kept { All (IsBoxRow dim) kept.now }
+    ensures { IsUnheld kept.now part result }
+{
+    match part {
+        Some(row) if is_held(dim, &row, kept) => None,
+        _ => part,
+    }
+}
+
+/// Whether one of the boxes kept holds a box.
+fn is_held(dim: usize, row: &BoxRow, kept: &[BoxRow]) -> bool
+    requires high { dim ≤ 6 }
+    requires is_box { IsBoxRow dim row.now }
+    requires kept { All (IsBoxRow dim) kept.now }
+    ensures { OnTrue result (IsHeld row.now kept.now) }
+{
+    for other in kept {
+        if is_inside(dim, row, other) {
+            return true;
+        }
+    }
+    false
+}
+
+/// Whether a box lies in another.
+fn is_inside(dim: usize, row: &BoxRow, other: &BoxRow) -> bool
+    requires high { dim ≤ 6 }
+    requires row { IsBoxRow dim row.now }
+    requires other { IsBoxRow dim other.now }
+    ensures { OnTrue result (IsInside row.now other.now) }
+{
+    for axis in 0..dim {
+        if row.lo[axis] < other.lo[axis] || other.hi[axis] < row.hi[axis] {
+            return false;
+        }
+    }
+    true
 }
 
 /// Whether there is a box, and it is just the window.

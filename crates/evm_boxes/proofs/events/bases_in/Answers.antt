@@ -1,9 +1,9 @@
-use Rattle.std.proofs.Common.{◌≡◌, ◌-◌, ◌<◌, [], ◌∷◌, ◌++◌, List, length, get_or, Some, arith, rules, w32, to_z, of_z, sym, subst, ap, ap₂, ◌∙◌}
+use Rattle.std.proofs.Common.{◌≡◌, ◌-◌, [], ◌∷◌, ◌++◌, List, get_or, Some, arith, w32, to_z, of_z, sym, subst, ap₂, ◌∙◌}
 use Rattle.std.specs.Option.{option_to_list}
 use Rattle.evm_sections.proofs.Bits.{same32}
-use Rattle.evm_boxes.specs.Fills.{IsSection, level_of}
+use Rattle.evm_boxes.specs.Fills.{IsSection, IsUnheld, level_of}
 use Rattle.evm_boxes.specs.declared.BoxRow.{BoxRow}
-use Rattle.evm_boxes.proofs.Windows.{section_full, section_more, section_all}
+use Rattle.evm_boxes.proofs.Windows.{section_full, section_unheld, section_all}
 use Rattle.evm_boxes.proofs.events.bases_in.Goals as goal
 
 pub returns-then-is_just : goal.returns-then-is_just
@@ -16,7 +16,10 @@ returns-then-is_just c =
 
 pub loop-row-preserved : goal.loop-row-preserved
 loop-row-preserved c =
-    section_more (c.args.dim - 1) _ c.args.window.now c.args.rows.now _ _ _ c.loop-row.row-index (record { dim = 0; lo = []; hi = [] }) (omega arith) c.in_ok-keep-2.ensures c.loop-row.invariant c.base_in-part.ensures
+    let left_is : IsUnheld c.loop-row.kept.items c.base_in-part.result c.unheld-left.result =
+    subst (λ (kept : List BoxRow). IsUnheld kept c.base_in-part.result c.unheld-left.result) c.as_slice.ensures.value c.unheld-left.ensures in
+    section_unheld (c.args.dim - 1) _ c.args.window.now c.args.rows.now c.loop-row.kept.items c.keep-in-loop-row.new.kept.items c.base_in-part.result c.unheld-left.result c.loop-row.row-index
+    (record { dim = 0; lo = []; hi = [] }) (omega arith) c.in_ok-keep-2.ensures left_is c.loop-row.invariant c.base_in-part.ensures
 
 pub returns : goal.returns
 returns c =
