@@ -25,13 +25,13 @@ use Rattle.evm_cutting.proofs.Lowered.{lowered_low, lowered_over}
 
 -- ---- tests of all rows
 
-all_join : (p : List ℤ → Bool) (xs ys : List (List ℤ)) → list_all p xs ≡ true → list_all p ys ≡ true → list_all p (xs ++ ys) ≡ true
+pub all_join : (p : List ℤ → Bool) (xs ys : List (List ℤ)) → list_all p xs ≡ true → list_all p ys ≡ true → list_all p (xs ++ ys) ≡ true
 all_join p xs ys a b = all-append p xs ys ∙ and_both (list_all p xs) (list_all p ys) a b
 
-all_left : (p : List ℤ → Bool) (xs ys : List (List ℤ)) → list_all p (xs ++ ys) ≡ true → list_all p xs ≡ true
+pub all_left : (p : List ℤ → Bool) (xs ys : List (List ℤ)) → list_all p (xs ++ ys) ≡ true → list_all p xs ≡ true
 all_left p xs ys h = and_first (list_all p xs) (list_all p ys) (sym (all-append p xs ys) ∙ h)
 
-all_right : (p : List ℤ → Bool) (xs ys : List (List ℤ)) → list_all p (xs ++ ys) ≡ true → list_all p ys ≡ true
+pub all_right : (p : List ℤ → Bool) (xs ys : List (List ℤ)) → list_all p (xs ++ ys) ≡ true → list_all p ys ≡ true
 all_right p xs ys h = and_second (list_all p xs) (list_all p ys) (sym (all-append p xs ys) ∙ h)
 
 all_two : (s t : List ℤ → Bool) (S : List (List ℤ)) → list_all s S ≡ true → list_all t S ≡ true → list_all (λ q. s q && t q) S ≡ true
@@ -120,7 +120,7 @@ puts_more : (y : ℤ) (h : List ℤ) (x : ℤ) (O : List (List ℤ)) → map (pu
 puts_more y h x [] = refl
 puts_more y h x (q ∷ O) = ap (λ W. put (y ∷ h) x q ∷ W) (puts_more y h x O)
 
-puts_rise : (h : List ℤ) (x : ℤ) (O : List (List ℤ)) → rising before O ≡ true → rising before (map (put h x) O) ≡ true
+pub puts_rise : (h : List ℤ) (x : ℤ) (O : List (List ℤ)) → rising before O ≡ true → rising before (map (put h x) O) ≡ true
 puts_rise [] x O r = rising_prefixed x O r
 puts_rise (y ∷ h) x O r = ap (rising before) (puts_more y h x O) ∙ rising_prefixed y (map (put h x) O) (puts_rise h x O r)
 
@@ -164,7 +164,7 @@ odd_of_high P S fewer O j e side o q =
     ∙ ⊎_elim (λ (w : fewer ≡ P). ap (λ (z : List (List ℤ)). xsum f (map (drop j) z)) w ∙ both) (λ (w : fewer ≡ S). ap (λ (z : List (List ℤ)). xsum f (map (drop j) z)) w) side
 
 -- no rows have no odd places
-no_places : (j : ℕ) (O : List (List ℤ)) → IsOddPart (map (drop j) []) O → O ≡ []
+pub no_places : (j : ℕ) (O : List (List ℤ)) → IsOddPart (map (drop j) []) O → O ≡ []
 unfolding has
 no_places j [] o = refl
 no_places j (x ∷ O) o = absurd (true≢false (sym (first x O) ∙ o.members x ∙ count_of [] x ∙ xsum-nil (λ s. same s x)))
@@ -191,9 +191,15 @@ pub record IsLowered (n i : ℕ) (at : ℤ) (h : List ℤ) (G N : List (List ℤ
   pub times : (p : List ℤ) → xsum (λ q. same q p) N ≡ xsum (λ q. same (lowered i at q) p) G
 
 -- the head of some of the rows of a group is that of the group
-head_alike : (i : ℕ) (h : List ℤ) (at : ℤ) (U O : List (List ℤ)) → list_all (λ p. same (take i p) h) U ≡ true → IsOddPart (map (drop (suc i)) U) O → map (put (head_of i U) at) O ≡ map (put h at) O
+pub head_alike : (i : ℕ) (h : List ℤ) (at : ℤ) (U O : List (List ℤ)) → list_all (λ p. same (take i p) h) U ≡ true → IsOddPart (map (drop (suc i)) U) O → map (put (head_of i U) at) O ≡ map (put h at) O
 head_alike i h at [] O a o = let e = no_places (suc i) O o in ap (map (put (head_of i []) at)) e ∙ ap (map (put h at)) (sym e)
 head_alike i h at (p ∷ U) O a o = ap (λ z. map (put z at) O) (strict_places.equal (take i p) h (and_first (same (take i p) h) (list_all (λ q. same (take i q) h) U) a))
+
+-- and they have that head
+pub alike_fewer : (i : ℕ) (h : List ℤ) (P S fewer : List (List ℤ)) → list_all (λ p. same (take i p) h) (P ++ S) ≡ true → (fewer ≡ P) ⊎ (fewer ≡ S) → list_all (λ p. same (take i p) h) fewer ≡ true
+alike_fewer i h P S fewer a side =
+    let t : List ℤ → Bool = λ p. same (take i p) h in
+    ⊎_elim (λ (e : fewer ≡ P). ap (list_all t) e ∙ all_left t P S a) (λ (e : fewer ≡ S). ap (list_all t) e ∙ all_right t P S a) side
 
 -- all rows after the first that is not below the height are not below it
 all_over : (n i : ℕ) (at : ℤ) (h : List ℤ) (S : List (List ℤ)) → i < n → list_all (λ p. length p == n) S ≡ true → list_all (λ p. same (take i p) h) S ≡ true → ascending S ≡ true → starts_over i at S ≡ true → list_all (is_over i at) S ≡ true
@@ -231,13 +237,13 @@ high_times n i at h p S l w a o =
     ∙ sym (xsum-map (λ q. same (put h at q) p) (drop (suc i)) S)
 
 -- the closing rows
-puts_wide : (n i : ℕ) (h : List ℤ) (at : ℤ) (O : List (List ℤ)) → i < n → length h ≡ i → list_all (λ q. length q == n - suc i) O ≡ true → list_all (λ p. length p == n) (map (put h at) O) ≡ true
+pub puts_wide : (n i : ℕ) (h : List ℤ) (at : ℤ) (O : List (List ℤ)) → i < n → length h ≡ i → list_all (λ q. length q == n - suc i) O ≡ true → list_all (λ p. length p == n) (map (put h at) O) ≡ true
 puts_wide n i h at O l d w =
     all-map (λ p. length p == n) (put h at) O
     ∙ all_weaker (λ q. length q == n - suc i) (λ q. length (put h at q) == n)
     (λ q m. let e : length q ≡ n - suc i = eqb-true (length q) (n - suc i) m in eq-eqb (length (put h at q)) n (omega (arith, length-append h (at ∷ q)))) O w
 
-puts_alike : (i : ℕ) (h : List ℤ) (at : ℤ) (O : List (List ℤ)) → length h ≡ i → list_all (λ p. same (take i p) h) (map (put h at) O) ≡ true
+pub puts_alike : (i : ℕ) (h : List ℤ) (at : ℤ) (O : List (List ℤ)) → length h ≡ i → list_all (λ p. same (take i p) h) (map (put h at) O) ≡ true
 puts_alike i h at [] d = refl
 puts_alike i h at (q ∷ O) d =
     and_both (same (take i (put h at q)) h) (list_all (λ p. same (take i p) h) (map (put h at) O))
@@ -272,9 +278,7 @@ group_lowered n i at h G P S fewer O g c side wide o =
     let as' = all_right (λ p. same (take i p) h) P S a in
     let over = all_over n i at h S l ws as' (asc_tail P S r) c.high in
     let M : List (List ℤ) = map (put h at) O in
-    let alike_fewer : list_all (λ p. same (take i p) h) fewer ≡ true =
-    ⊎_elim (λ (e : fewer ≡ P). ap (list_all (λ p. same (take i p) h)) e ∙ ap') (λ (e : fewer ≡ S). ap (list_all (λ p. same (take i p) h)) e ∙ as') side in
-    let m : map (put (head_of i fewer) at) O ≡ M = head_alike i h at fewer O alike_fewer o in
+    let m : map (put (head_of i fewer) at) O ≡ M = head_alike i h at fewer O (alike_fewer i h P S fewer a side) o in
     let asc : ascending (P ++ M) ≡ true =
     asc_join P M (asc_front P S r) (ascending-rising M ∙ puts_rise h at O (sym (ascending-rising O) ∙ o.rises)) (low_before n i h at P O l wp ap' c.low) in
     let times : (p : List ℤ) → xsum (λ q. same q p) (P ++ M) ≡ xsum (λ q. same (lowered i at q) p) G =
@@ -306,6 +310,10 @@ abbrev pub IsAhead : ℕ → List (List ℤ) → List (List ℤ) → Type 0
 IsAhead i W [] = Unit {0}
 IsAhead i W (r ∷ R) = list_all (λ w. before (take i w) (take i r)) W ≡ true
 
+pub ahead_none : (i : ℕ) (R : List (List ℤ)) → IsAhead i [] R
+ahead_none i [] = tt
+ahead_none i (r ∷ R) = refl
+
 -- W are the lowered rows of what stands before the rows R in V
 pub record IsCutSoFar (n i : ℕ) (at : ℤ) (V W R : List (List ℤ)) : Type 0 where
   pub ascends : ascending W ≡ true
@@ -321,16 +329,12 @@ unfolding ascending xor
 cut_start n i at V l v = record {
   ascends = refl;
   wide = refl;
-  ahead = none V;
+  ahead = ahead_none i V;
   rises = v.ascends;
   long = lengths-points n V v.points;
   even = λ line. sym (parity-is i V line) ∙ v.even i line l;
   times = λ p. ap (λ t. xor t (xsum (λ q. same (lowered i at q) p) V)) (xsum-nil (λ q. same q p));
 }
-  where
-    none : (R : List (List ℤ)) → IsAhead i [] R
-    none [] = tt
-    none (r ∷ R) = refl
 
 pub cut_end : (n i : ℕ) (at : ℤ) (V W R : List (List ℤ)) → R ≡ [] → IsCutSoFar n i at V W R → IsReduced n (map (lowered i at) V) W
 cut_end n i at V W R e s = record {
@@ -374,38 +378,25 @@ group_is n i at V W R G T l s f =
       },
     )
 
-pub cut_more : (n i : ℕ) (at : ℤ) (V W R G T N : List (List ℤ)) → i < n → 0 < length R → IsCutSoFar n i at V W R → IsFrontGroup i R G T → IsPaired (map (drop (suc i)) G) → IsLowered n i at (head_of i R) G N
-    → IsCutSoFar n i at V (W ++ N) T
-cut_more n i at V W R G T N l some s f paired c =
+-- rows W that stand before the rows R, and rows N with the head of the first group of R, stand before what is left of R
+pub ahead_more : (n i : ℕ) (W R G T N : List (List ℤ)) → i < n → 0 < length R → ascending R ≡ true → list_all (λ p. length p == n) R ≡ true → IsFrontGroup i R G T → ascending W ≡ true → IsAhead i W R
+    → ascending N ≡ true → list_all (λ p. same (take i p) (head_of i R)) N ≡ true → (ascending (W ++ N) ≡ true) × IsAhead i (W ++ N) T
+ahead_more n i W R G T N l some rises long f asc before_all asc_new alike =
     let (g, U, starts, rows, head) = group_some i R G T some f in
-    let m : i + 1 ≡ suc i = omega arith in
     let h : List ℤ = head_of i R in
-    let F : List ℤ → List ℤ → Bool = λ p q. same (lowered i at q) p in
     let ahead : list_all (λ w. before (take i w) h) W ≡ true =
-    subst (λ (z : List ℤ). list_all (λ w. before (take i w) z) W ≡ true) head (subst (λ (X : List (List ℤ)). IsAhead i W X) rows s.ahead) in
-    let a : ascending (g ∷ (U ++ T)) ≡ true = ap ascending (sym rows) ∙ s.rises in
-    let w : list_all (λ p. length p == n) (g ∷ (U ++ T)) ≡ true = ap (list_all (λ p. length p == n)) (sym rows) ∙ s.long in
+    subst (λ (z : List ℤ). list_all (λ w. before (take i w) z) W ≡ true) head (subst (λ (X : List (List ℤ)). IsAhead i W X) rows before_all) in
+    let a : ascending (g ∷ (U ++ T)) ≡ true = ap ascending (sym rows) ∙ rises in
+    let w : list_all (λ p. length p == n) (g ∷ (U ++ T)) ≡ true = ap (list_all (λ p. length p == n)) (sym rows) ∙ long in
     let lg : length g ≡ n = eqb-true (length g) n (and_first (length g == n) (list_all (λ p. length p == n) (U ++ T)) w) in
     let wt : list_all (λ p. length p == n) T ≡ true = all_right (λ p. length p == n) U T (and_second (length g == n) (list_all (λ p. length p == n) (U ++ T)) w) in
     let bt : list_all (before g) T ≡ true = all_right (before g) U T (asc_parts g (U ++ T) a).0 in
-    let ascends : ascending (W ++ N) ≡ true = asc_join W N s.ascends c.ascends
+    let ascends : ascending (W ++ N) ≡ true = asc_join W N asc asc_new
     (all_weaker (λ u. before (take i u) h) (λ u. list_all (before u) N)
     (λ u b. all_weaker (λ p. same (take i p) h) (before u)
-    (λ p e. before_longer i u p (ap (before (take i u)) (strict_places.equal (take i p) h e) ∙ b)) N c.alike)
+    (λ p e. before_longer i u p (ap (before (take i u)) (strict_places.equal (take i p) h e) ∙ b)) N alike)
     W ahead) in
-    record {
-      ascends = ascends;
-      wide = all_join (λ p. length p == n) W N s.wide c.wide;
-      ahead = after T refl g head lg bt wt ahead;
-      rises = asc_tail G T (ap ascending (sym f.rows) ∙ s.rises);
-      long = wt;
-      even = λ line. sym (group_even i R G T (map (drop (suc i)) G) line f (ap (λ (j : ℕ). map (drop j) G) (sym m)) paired) ∙ s.even line;
-      times = λ p.
-          ap (λ t. xor t (xsum (F p) T)) (xsum-append (λ q. same q p) W N ∙ ap (xor (xsum (λ q. same q p) W)) (c.times p))
-          ∙ xor_assoc (xsum (λ q. same q p) W) (xsum (F p) G) (xsum (F p) T)
-          ∙ ap (xor (xsum (λ q. same q p) W)) (sym (xsum-append (F p) G T) ∙ ap (xsum (F p)) (sym f.rows))
-          ∙ s.times p;
-    }
+    (ascends, after T refl g head lg bt wt ahead)
   where
     after : (X : List (List ℤ)) → T ≡ X → (g : List ℤ) → take i g ≡ head_of i R → length g ≡ n → list_all (before g) T ≡ true → list_all (λ p. length p == n) T ≡ true → list_all (λ w. before (take i w) (head_of i R)) W ≡ true → IsAhead i (W ++ N) X
     after [] e g head lg bt wt ahead = tt
@@ -417,4 +408,24 @@ cut_more n i at V W R G T N l some s f paired c =
         let up : before (head_of i R) (take i r) ≡ true = ap (λ z. before z (take i r)) (sym head) ∙ fronts_before i g r (omega arith) (omega arith) b (ap (same (take i r)) head ∙ d) in
         all_join (λ w. before (take i w) (take i r)) W N
         (all_weaker (λ w. before (take i w) (head_of i R)) (λ w. before (take i w) (take i r)) (λ w k. before_trans (take i w) (head_of i R) (take i r) k up) W ahead)
-        (all_weaker (λ p. same (take i p) (head_of i R)) (λ w. before (take i w) (take i r)) (λ p k. ap (λ z. before z (take i r)) (strict_places.equal (take i p) (head_of i R) k) ∙ up) N c.alike)
+        (all_weaker (λ p. same (take i p) (head_of i R)) (λ w. before (take i w) (take i r)) (λ p k. ap (λ z. before z (take i r)) (strict_places.equal (take i p) (head_of i R) k) ∙ up) N alike)
+
+pub cut_more : (n i : ℕ) (at : ℤ) (V W R G T N : List (List ℤ)) → i < n → 0 < length R → IsCutSoFar n i at V W R → IsFrontGroup i R G T → IsPaired (map (drop (suc i)) G) → IsLowered n i at (head_of i R) G N
+    → IsCutSoFar n i at V (W ++ N) T
+cut_more n i at V W R G T N l some s f paired c =
+    let m : i + 1 ≡ suc i = omega arith in
+    let F : List ℤ → List ℤ → Bool = λ p q. same (lowered i at q) p in
+    let (ascends, ahead) = ahead_more n i W R G T N l some s.rises s.long f s.ascends s.ahead c.ascends c.alike in
+    record {
+      ascends = ascends;
+      wide = all_join (λ p. length p == n) W N s.wide c.wide;
+      ahead = ahead;
+      rises = asc_tail G T (ap ascending (sym f.rows) ∙ s.rises);
+      long = all_right (λ p. length p == n) G T (ap (list_all (λ p. length p == n)) (sym f.rows) ∙ s.long);
+      even = λ line. sym (group_even i R G T (map (drop (suc i)) G) line f (ap (λ (j : ℕ). map (drop j) G) (sym m)) paired) ∙ s.even line;
+      times = λ p.
+          ap (λ t. xor t (xsum (F p) T)) (xsum-append (λ q. same q p) W N ∙ ap (xor (xsum (λ q. same q p) W)) (c.times p))
+          ∙ xor_assoc (xsum (λ q. same q p) W) (xsum (F p) G) (xsum (F p) T)
+          ∙ ap (xor (xsum (λ q. same q p) W)) (sym (xsum-append (F p) G T) ∙ ap (xsum (F p)) (sym f.rows))
+          ∙ s.times p;
+    }

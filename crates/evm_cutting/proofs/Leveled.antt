@@ -1,33 +1,37 @@
 -- The cut of rows at a height, in flat numbers.
-use Rattle.std.proofs.Common.{◌≡◌, ℕ, zero, suc, ◌+◌, ◌-◌, ◌/◌, ◌%◌, ◌<◌, ◌≤◌, ◌⊎◌, Bool, true, false, not, ◌&&◌, ◌||◌, ◌==◌, List, [], ◌∷◌, ◌++◌, length, take, drop, map, filter, count_by, ℤ, inl, inr, refl, sym, ap, ap₂, ◌∙◌, subst, arith, append_assoc, append-nil, eq-eqb, eqb-true, ⊎_elim, take-add}
+use Rattle.std.proofs.Common.{◌≡◌, ℕ, zero, suc, ◌+◌, ◌-◌, ◌/◌, ◌%◌, ◌<◌, ◌≤◌, ◌⊎◌, Bool, true, false, ◌&&◌, ◌||◌, ◌==◌, List, [], ◌∷◌, ◌++◌, length, take, drop, map, filter, count_by, ℤ, inl, inr, refl, sym, ap, ap₂, ◌∙◌, subst, arith, append_assoc, append-nil, eq-eqb, eqb-true, ⊎_elim, take-add, length-append}
 use Rattle.std.specs.List.{list_all}
 use Rattle.std.proofs.lemmas.Bool.{ne_eqb}
-use Rattle.std.proofs.lemmas.List.{length-take-le, drop_all}
+use Rattle.std.proofs.lemmas.List.{length-take-le, drop_at}
 use native.Mathlib.Nat.{mul-mod_left}
-use Rattle.evm_cells.specs.Booleans.{xor}
+use Rattle.evm_cells.specs.Booleans.{xor_cells}
 use Rattle.evm_cells.specs.Limits.{IsCellSet}
 use Rattle.evm_cells.specs.Places.{same, has, ascending}
 use Rattle.evm_cells.specs.Vertices.{odd, evm, cells, IsVertexList}
 use Rattle.evm_cells.specs.Windows.{is_under, is_over, IsReduced}
+use Rattle.evm_cells.proofs.Core.{vertices-evm}
 use Rattle.evm_cells.proofs.Lists.{all-append}
 use Rattle.evm_cells.proofs.Sides.{cell_set-part}
 use Rattle.evm_cells.proofs.Universe.{same_sym, cell_set-cells}
-use Rattle.evm_cells.proofs.Xor.{xsum, xsum-cons, xsum-nil, odd-zero, odd-more, and-true, and-false, and_both, and_first, and_second}
-use Rattle.evm_rows.specs.Rows.{rows_of, flat_of, AreRows}
+use Rattle.evm_cells.proofs.Xor.{xsum, xsum-nil, and-true, and-false, and_both, and_first, and_second}
+use Rattle.evm_rows.specs.Rows.{rows_of, flat_of, merge_xor, xor_rows, AreRows}
 use Rattle.evm_rows.specs.Groups.{IsOddPart, IsFrontGroup, head_of}
 use Rattle.evm_rows.proofs.BoxTests.{flat_of-append}
+use Rattle.evm_rows.proofs.Bridge.{merge_is, vertices-xor}
 use Rattle.evm_rows.proofs.FirstRows.{asc_none}
-use Rattle.evm_rows.proofs.Lines.{rows_of-append, rows_of-single, rows_of-skip, rows_parted}
+use Rattle.evm_rows.proofs.Lines.{rows_of-append, rows_of-single, rows_of-skip, rows_parted, empty_places}
 use Rattle.evm_rows.proofs.Pairs.{count_of}
 use Rattle.evm_rows.proofs.RowsLaws.{rows_of-nil, rows_of-cons, whole-first}
 use Rattle.evm_rows.proofs.RowsOrder.{Wide, rows_of-wide, rows_of-flat_of, length-flat_of}
 use Rattle.evm_rows.proofs.RowsPlaces.{length-rows_of, quotient}
-use Rattle.evm_rows.proofs.Solids.{flat_of-rows_of}
+use Rattle.evm_rows.proofs.Solids.{flat_of-rows_of, are_rows-from, cells-xor_rows}
 use Rattle.evm_shapes.proofs.Shaped.{are_rows_of, cells_of}
 use Rattle.evm_cutting.specs.Cuts.{IsBetween}
-use Rattle.evm_cutting.specs.Levels.{lowered, put, starts_over, IsParted, IsClosed, IsCut}
+use Rattle.evm_cutting.specs.Levels.{lowered, put, starts_over, IsParted, IsClosed, IsCut, IsCutInTwo}
 use Rattle.evm_cutting.proofs.Lowered.{below_rows}
-use Rattle.evm_cutting.proofs.Closed.{IsCutSoFar, IsLowered, group_is, group_lowered, cut_more}
+use Rattle.evm_cutting.proofs.Sided.{above_by_xor}
+use Rattle.evm_cutting.proofs.Closed.{IsCutSoFar, IsLowered, all_join, group_is, group_lowered, cut_more, no_places, puts_wide}
+use Rattle.evm_cutting.proofs.Above.{IsOther, IsOtherSoFar, group_above, other_more}
 
 to_wide : (n : ℕ) (S : List (List ℤ)) → Wide n S → list_all (λ p. length p == n) S ≡ true
 to_wide n [] w = refl
@@ -91,22 +95,6 @@ closed_empty n i at U old new e f = record {
   made = f ∙ sym (append-nil old);
 }
 
--- rows of which nothing is left: their number tells how often the place without numbers occurs
-nothing_behind : (w : ℕ) (T : List (List ℤ)) (r : List ℤ) → Wide w T → xsum (λ s. same s r) (map (drop w) T) ≡ (same [] r && odd (length T))
-unfolding xor
-nothing_behind w [] r wide = xsum-nil (λ s. same s r) ∙ sym (ap (λ t. same [] r && t) odd-zero ∙ and-false (same [] r))
-nothing_behind w (p ∷ T) r wide =
-    let gone : drop w p ≡ [] = let l : length p ≡ w = wide.0 in drop_all w p (omega arith) in
-    let longer : 1 + length T ≡ suc (length T) = omega arith in
-    let parity : (same [] r && not (odd (length T))) ≡ (same [] r && odd (suc (length T))) =
-    ap (λ t. same [] r && t) (sym (odd-more (length T)) ∙ ap odd longer) in
-    xsum-cons (λ s. same s r) (drop w p) (map (drop w) T) ∙ ap₂ xor (ap (λ z. same z r) gone) (nothing_behind w T r wide.1)
-    ∙ flipped (same [] r) (odd (length T)) ∙ parity
-  where
-    flipped : (b t : Bool) → xor b (b && t) ≡ (b && not t)
-    flipped true t = refl
-    flipped false t = refl
-
 -- as many rows as numbers tell
 count_rows : (flat : List ℤ) (w : ℕ) → 0 < w → length flat % w ≡ 0 → length flat / w ≡ length (rows_of flat w 0)
 count_rows flat w wide whole = quotient (length (rows_of flat w 0)) w (length flat) wide (length-rows_of flat w 0 wide whole)
@@ -120,7 +108,7 @@ last_odd i w flat q e whole =
     let m : suc i ≡ w = omega arith in
     count_of (map (drop (suc i)) (rows_of flat w 0)) q
     ∙ ap (λ (j : ℕ). xsum (λ s. same s q) (map (drop j) (rows_of flat w 0))) m
-    ∙ nothing_behind w (rows_of flat w 0) q (all_wide flat w wide whole)
+    ∙ empty_places w (rows_of flat w 0) q (all_wide flat w wide whole)
     ∙ ap (λ (k : ℕ). same [] q && odd k) (sym (count_rows flat w wide whole))
 
 pub closed_even : (i w : ℕ) (at : ℤ) (flat old new : List ℤ) → i + 1 ≡ w → length flat % w ≡ 0 → (length flat / w % 2 ≡ 1 → ⊥) → new ≡ old → IsClosed w i at (rows_of flat w 0) old new
@@ -189,39 +177,89 @@ closed_places i w k m at flat head xs old new l some whole e d whole_xs h o a =
 pub cut_none : (w : ℕ) (out : List ℤ) → out ≡ [] → rows_of out w 0 ≡ []
 cut_none w out e = ap (λ z. rows_of z w 0) e ∙ rows_of-nil w 0
 
--- the numbers of one more group
-pub cut_group : (w i : ℕ) (at : ℤ) (V R G T : List (List ℤ)) (out new : List ℤ) → 0 < w → i < w → 0 < length R → length out % w ≡ 0 → IsCutSoFar w i at V (rows_of out w 0) R → IsFrontGroup i R G T → IsCut w i at G out new
-    → (length new % w ≡ 0) × IsCutSoFar w i at V (rows_of new w 0) T
-cut_group w i at V R G T out new wide l some whole s f c =
-    let (paired, g) = group_is w i at V (rows_of out w 0) R G T l s f in
-    let M : List (List ℤ) = map (put (head_of i c.fewer) at) c.closed.places in
-    let N : List (List ℤ) = c.low ++ M in
-    let n : IsLowered w i at (head_of i R) G N = group_lowered w i at (head_of i R) G c.low c.high c.fewer c.closed.places g c.parted c.one_side c.closed.wide c.closed.odd in
-    let more : IsCutSoFar w i at V (rows_of out w 0 ++ N) T = cut_more w i at V (rows_of out w 0) R G T N l some s f paired n in
-    let u : Wide w N = from_wide w N n.wide in
-    let made : new ≡ out ++ flat_of N = c.closed.made ∙ ap (λ z. z ++ flat_of M) c.kept ∙ append_assoc out (flat_of c.low) (flat_of M) ∙ ap (λ z. out ++ z) (sym (flat_of-append c.low M)) in
-    let rows : rows_of new w 0 ≡ rows_of out w 0 ++ N = ap (λ z. rows_of z w 0) made ∙ rows_of-append out (flat_of N) w 0 wide whole ∙ ap (λ Z. rows_of out w 0 ++ Z) (rows_of-flat_of w N wide u) in (
-      length_whole (rows_of out w 0 ++ N) (from_wide w (rows_of out w 0 ++ N) more.wide)
-          (made ∙ ap (λ z. z ++ flat_of N) (sym (flat_of-rows_of out w wide whole)) ∙ sym (flat_of-append (rows_of out w 0) N)),
-      subst (λ (Z : List (List ℤ)). IsCutSoFar w i at V Z T) (sym rows) more,
-    )
-  where
-    length_whole : (Z : List (List ℤ)) → Wide w Z → new ≡ flat_of Z → length new % w ≡ 0
-    length_whole Z v e = ap (λ (z : List ℤ). length z % w) e ∙ ap (λ (k : ℕ). k % w) (length-flat_of w Z v) ∙ mul-mod_left (length Z) w
+-- closing rows have as many numbers as the others
+closing_wide : (w i : ℕ) (at : ℤ) (U O : List (List ℤ)) → i < w → Wide w U → list_all (λ q. length q == w - suc i) O ≡ true → IsOddPart (map (drop (suc i)) U) O → Wide w (map (put (head_of i U) at) O)
+closing_wide w i at [] O l wide a o = subst (λ (T : List (List ℤ)). Wide w (map (put (head_of i []) at) T)) (sym (no_places (suc i) O o)) tt
+closing_wide w i at (p ∷ U) O l wide a o =
+    let k : length p ≡ w = wide.0 in
+    from_wide w (map (put (take i p) at) O) (puts_wide w i (take i p) at O l (length-take-le i p (omega arith)) a)
+
+-- the closing rows of a cut
+abbrev closing : (w i : ℕ) (at : ℤ) (P S : List (List ℤ)) (old new : List ℤ) → IsCut w i at P S old new → List (List ℤ)
+closing w i at P S old new c = map (put (head_of i c.fewer) at) c.closed.places
+
+cut_wide : (w i : ℕ) (at : ℤ) (P S : List (List ℤ)) (old new : List ℤ) → i < w → Wide w P → Wide w S → (c : IsCut w i at P S old new) → Wide w (closing w i at P S old new c)
+cut_wide w i at P S old new l a b c =
+    closing_wide w i at c.fewer c.closed.places l (⊎_elim (λ (e : c.fewer ≡ P). subst (Wide w) (sym e) a) (λ (e : c.fewer ≡ S). subst (Wide w) (sym e) b) c.one_side) c.closed.wide c.closed.odd
+
+-- numbers with rows after them
+rows_added : (w : ℕ) (out new : List ℤ) (N : List (List ℤ)) → 0 < w → length out % w ≡ 0 → Wide w N → new ≡ out ++ flat_of N → (length new % w ≡ 0) × (rows_of new w 0 ≡ rows_of out w 0 ++ N)
+rows_added w out new N wide whole u e =
+    let r : rows_of new w 0 ≡ rows_of out w 0 ++ N = ap (λ z. rows_of z w 0) e ∙ rows_of-append out (flat_of N) w 0 wide whole ∙ ap (λ Z. rows_of out w 0 ++ Z) (rows_of-flat_of w N wide u) in
+    let v : Wide w (rows_of out w 0 ++ N) =
+    from_wide w (rows_of out w 0 ++ N) (all_join (λ p. length p == w) (rows_of out w 0) N (to_wide w (rows_of out w 0) (all_wide out w wide whole)) (to_wide w N u)) in
+    let made : new ≡ flat_of (rows_of out w 0 ++ N) = e ∙ ap (λ z. z ++ flat_of N) (sym (flat_of-rows_of out w wide whole)) ∙ sym (flat_of-append (rows_of out w 0) N) in
+    (ap (λ (z : List ℤ). length z % w) made ∙ ap (λ (k : ℕ). k % w) (length-flat_of w (rows_of out w 0 ++ N) v) ∙ mul-mod_left (length (rows_of out w 0 ++ N)) w, r)
+
+-- the rows of a group G, cut in two
+pub record IsGroupCut (w i : ℕ) (at : ℤ) (R G T P S : List (List ℤ)) : Type 0 where
+  pub within : i < w
+  pub some : 0 < length R
+  pub front : IsFrontGroup i R G T
+  pub parted : IsParted i at G P S
+
+-- the numbers of what is below, with one more group
+pub cut_group : (w i : ℕ) (at : ℤ) (V R G T P S : List (List ℤ)) (out new : List ℤ) → IsGroupCut w i at R G T P S → length out % w ≡ 0 → IsCutSoFar w i at V (rows_of out w 0) R → (c : IsCut w i at P S out new)
+    → (length new % w ≡ 0) × (rows_of new w 0 ≡ rows_of out w 0 ++ (P ++ closing w i at P S out new c)) × IsCutSoFar w i at V (rows_of new w 0) T
+cut_group w i at V R G T P S out new t whole s c =
+    let l : i < w = t.within in
+    let (paired, g) = group_is w i at V (rows_of out w 0) R G T l s t.front in
+    let M : List (List ℤ) = closing w i at P S out new c in
+    let N : List (List ℤ) = P ++ M in
+    let n : IsLowered w i at (head_of i R) G N = group_lowered w i at (head_of i R) G P S c.fewer c.closed.places g t.parted c.one_side c.closed.wide c.closed.odd in
+    let more : IsCutSoFar w i at V (rows_of out w 0 ++ N) T = cut_more w i at V (rows_of out w 0) R G T N l t.some s t.front paired n in
+    let made : new ≡ out ++ flat_of N = c.closed.made ∙ append_assoc out (flat_of P) (flat_of M) ∙ ap (λ z. out ++ z) (sym (flat_of-append P M)) in
+    let (a, r) = rows_added w out new N (omega arith) whole (from_wide w N n.wide) made in
+    (a, r, subst (λ (Z : List (List ℤ)). IsCutSoFar w i at V Z T) (sym r) more)
+
+-- and those of what is above
+pub other_group : (w i : ℕ) (at : ℤ) (V R G T P S : List (List ℤ)) (out new above more : List ℤ) → IsGroupCut w i at R G T P S → length out % w ≡ 0 → length above % w ≡ 0 → IsCutSoFar w i at V (rows_of out w 0) R
+    → IsOtherSoFar w i V (rows_of out w 0) (rows_of above w 0) R → IsCutInTwo w i at P S out new above more
+    → (length more % w ≡ 0) × IsOtherSoFar w i V (rows_of new w 0) (rows_of more w 0) T
+other_group w i at V R G T P S out new above more t whole whole_above s o b =
+    let c : IsCut w i at P S out new = b.cut in
+    let (paired, g) = group_is w i at V (rows_of out w 0) R G T t.within s t.front in
+    let M : List (List ℤ) = closing w i at P S out new c in
+    let K : List (List ℤ) = merge_xor M S in
+    let k : IsOther w i (head_of i R) G (P ++ M) K = group_above w i at (head_of i R) G P S c.fewer c.closed.places g t.parted c.one_side c.closed.wide c.closed.odd in
+    let next : IsOtherSoFar w i V (rows_of out w 0 ++ (P ++ M)) (rows_of above w 0 ++ K) T =
+    other_more w i V (rows_of out w 0) (rows_of above w 0) R G T (P ++ M) K t.within t.some s.rises s.long t.front k o in
+    let (a, r) = rows_added w above more K (let l = t.within in omega arith) whole_above (from_wide w K k.wide) b.rest in
+    let below = (cut_group w i at V R G T P S out new t whole s c).1 in
+    (a, subst (λ (Y : List (List ℤ)). IsOtherSoFar w i V Y (rows_of more w 0) T) (sym below) (subst (λ (Z : List (List ℤ)). IsOtherSoFar w i V (rows_of out w 0 ++ (P ++ M)) Z T) (sym r) next))
 
 -- a cut of a group, by the side that its closing rows are asked of
-pub cut_is : (w i : ℕ) (at : ℤ) (group low high fewer old middle new : List ℤ) → i < w → length low % w ≡ 0 → IsParted i at (rows_of group w 0) (rows_of low w 0) (rows_of high w 0)
-    → (fewer ≡ low) ⊎ (fewer ≡ high) → middle ≡ old ++ low → IsClosed w i at (rows_of fewer w 0) middle new → IsCut w i at (rows_of group w 0) old new
-cut_is w i at group low high fewer old middle new l whole p side m c = record {
-  low = rows_of low w 0;
-  high = rows_of high w 0;
+pub cut_is : (w i : ℕ) (at : ℤ) (low high fewer old middle new : List ℤ) → 0 < w → length low % w ≡ 0 → (fewer ≡ low) ⊎ (fewer ≡ high) → middle ≡ old ++ low → IsClosed w i at (rows_of fewer w 0) middle new
+    → IsCut w i at (rows_of low w 0) (rows_of high w 0) old new
+cut_is w i at low high fewer old middle new l whole side m c = record {
   fewer = rows_of fewer w 0;
-  middle = middle;
-  parted = p;
   one_side = ⊎_elim (λ (e : fewer ≡ low). inl (ap (λ (z : List ℤ). rows_of z w 0) e)) (λ (e : fewer ≡ high). inr (ap (λ (z : List ℤ). rows_of z w 0) e)) side;
-  kept = m ∙ ap (λ (z : List ℤ). old ++ z) (sym (flat_of-rows_of low w (omega arith) whole));
-  closed = c;
+  closed = subst (λ (z : List ℤ). IsClosed w i at (rows_of fewer w 0) z new) (m ∙ ap (λ (z : List ℤ). old ++ z) (sym (flat_of-rows_of low w l whole))) c;
 }
+
+-- the closing rows, as the numbers after the kept ones
+pub closing_numbers : (w i : ℕ) (at : ℤ) (low high old new : List ℤ) → i < w → length low % w ≡ 0 → length high % w ≡ 0 → (c : IsCut w i at (rows_of low w 0) (rows_of high w 0) old new)
+    → (length old + length low ≤ length new) × ((after : List ℤ) → after ≡ drop (length old + length low) new → (length after % w ≡ 0) × (rows_of after w 0 ≡ closing w i at (rows_of low w 0) (rows_of high w 0) old new c))
+closing_numbers w i at low high old new l whole_low whole_high c =
+    let wide : 0 < w = omega arith in
+    let M : List (List ℤ) = closing w i at (rows_of low w 0) (rows_of high w 0) old new c in
+    let u : Wide w M = cut_wide w i at (rows_of low w 0) (rows_of high w 0) old new l (all_wide low w wide whole_low) (all_wide high w wide whole_high) c in
+    let made : new ≡ (old ++ low) ++ flat_of M = c.closed.made ∙ ap (λ z. (old ++ z) ++ flat_of M) (flat_of-rows_of low w wide whole_low) in (
+      omega (arith, ap length made, length-append (old ++ low) (flat_of M), length-append old low),
+      λ after e.
+          let is : after ≡ flat_of M = e ∙ ap (drop (length old + length low)) made ∙ drop_at (old ++ low) (flat_of M) (length old + length low) (length-append old low) in
+          (ap (λ (z : List ℤ). length z % w) is ∙ ap (λ (k : ℕ). k % w) (length-flat_of w M u) ∙ mul-mod_left (length M) w, ap (λ z. rows_of z w 0) is ∙ rows_of-flat_of w M wide u),
+    )
 
 pub some_rows : (flat : List ℤ) (w : ℕ) → 0 < w → 0 < length flat → 0 < length (rows_of flat w 0)
 some_rows flat w wide some = let e = ap length (rows_of-cons flat w 0 some wide) in omega (arith, e)
@@ -245,4 +283,22 @@ below_made w s i at flat xs few left e b v whole r =
     let k : rows_of xs w 0 ≡ evm w T = below_rows w i at V (rows_of xs w 0) few c (whole_rows w s flat e v) r in (
       are_rows_of w xs T (omega arith) few whole t k,
       cells_of w w (rows_of xs w 0) T refl t k ∙ ap₂ (λ (n m : ℕ). filter (is_under i at) (cells n (rows_of flat w m))) (sym d) (sym e),
+    )
+
+pub above_made : (w s i : ℕ) (at : ℤ) (flat xs ys : List ℤ) → w ≤ 6 → s < w → s ≡ 0 → IsBetween (w - s) i at → IsVertexList (w - s) (rows_of flat w s) → IsReduced w (map (lowered i at) (rows_of flat w 0)) (rows_of xs w 0)
+    → length ys % w ≡ 0 → rows_of ys w 0 ≡ merge_xor (rows_of flat w 0) (rows_of xs w 0)
+    → AreRows ys w 0 × (cells w (rows_of ys w 0) ≡ filter (is_over i at) (cells (w - s) (rows_of flat w s)))
+above_made w s i at flat xs ys few left e b v r whole m =
+    let d : w - s ≡ w = omega arith in
+    let V : List (List ℤ) = rows_of flat w 0 in
+    let W : List (List ℤ) = rows_of xs w 0 in
+    let T : List (List ℤ) = filter (is_under i at) (cells w V) in
+    let t : IsCellSet w T = cell_set-part w (is_under i at) (cells w V) (cell_set-cells w V) in
+    let vV : IsVertexList w V = whole_rows w s flat e v in
+    let k : W ≡ evm w T = below_rows w i at V W few (subst (λ (j : ℕ). IsBetween j i at) d b) vV r in
+    let vW : IsVertexList w W = subst (λ (Z : List (List ℤ)). IsVertexList w Z) (sym k) (vertices-evm w T t) in
+    let is : rows_of ys w 0 ≡ xor_rows w V W = m ∙ merge_is w V W vV vW in (
+      are_rows-from ys w (omega arith) few whole (subst (λ (Z : List (List ℤ)). IsVertexList w Z) (sym is) (vertices-xor w V W)),
+      ap (cells w) is ∙ cells-xor_rows w V W ∙ ap (xor_cells w (cells w V)) (cells_of w w W T refl t k) ∙ above_by_xor w i at (cells w V) (cell_set-cells w V)
+          ∙ ap₂ (λ (n j : ℕ). filter (is_over i at) (cells n (rows_of flat w j))) (sym d) (sym e),
     )

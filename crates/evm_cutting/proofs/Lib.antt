@@ -1,6 +1,7 @@
 pub mod Planes
 pub mod Lowered
 pub mod Closed
+pub mod Above
 pub mod Leveled
 pub mod Sided
 pub mod Combined

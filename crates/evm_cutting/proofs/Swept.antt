@@ -12,7 +12,7 @@ use Rattle.evm_cells.proofs.Booleans.{has-combine_of}
 use Rattle.evm_cells.proofs.Combine.{cell_set-combine, cell_set-xor, has-xor_cells}
 use Rattle.evm_cells.proofs.Core.{cells-evm}
 use Rattle.evm_cells.proofs.Insides.{cell_set-change, has-change_of}
-use Rattle.evm_rows.specs.Rows.{Vertices, cells_of, xor_rows, combined_rows}
+use Rattle.evm_rows.specs.Rows.{Vertices, xor_rows, combined_rows}
 use Rattle.evm_rows.proofs.Bridge.{vertices-op}
 use Rattle.evm_boolean.specs.contracts.boolean.Op2.{the_type}
 use Rattle.evm_boolean.specs.declared.boolean.Op2.{Op2}

@@ -1,9 +1,9 @@
--- What is below a plane by rows: those below it as they stand, and rows that close each group of them at the plane. Axes are counted
--- from 0.
+-- The two sides of a plane by rows: of each group of rows, below it those below it as they stand, and rows that close them at the plane;
+-- above it the others, and the closing rows. Axes are counted from 0.
 use Rattle.std.specs.Prelude.{◌≡◌, ℕ, zero, suc, ◌-◌, ◌⊎◌, Bool, true, ◌==◌, ℤ, int_lt, List, [], ◌∷◌, ◌++◌, map, drop, length, if◌then◌else◌}
 use Rattle.std.specs.List.{list_all}
 use Rattle.evm_cells.specs.Windows.{is_under, is_over}
-use Rattle.evm_rows.specs.Rows.{flat_of}
+use Rattle.evm_rows.specs.Rows.{flat_of, merge_xor}
 use Rattle.evm_rows.specs.Groups.{IsOddPart, head_of}
 
 -- a row whose number on axis i is moved down to `at` if it is above
@@ -35,13 +35,14 @@ pub record IsClosed (n i : ℕ) (at : ℤ) (U : List (List ℤ)) (old new : List
   pub odd : IsOddPart (map (drop (suc i)) U) places
   pub made : new ≡ old ++ flat_of (map (put (head_of i U) at) places)
 
--- `new` are the numbers `old`, the rows of a group G that are below the height, and the rows that close these or the others of G
-pub record IsCut (n i : ℕ) (at : ℤ) (G : List (List ℤ)) (old new : List ℤ) : Type 0 where
-  pub low : List (List ℤ)
-  pub high : List (List ℤ)
+-- `new` are the numbers `old`, the rows P of a group that are below the height, and the rows that close these or the others S of the
+-- group
+pub record IsCut (n i : ℕ) (at : ℤ) (P S : List (List ℤ)) (old new : List ℤ) : Type 0 where
   pub fewer : List (List ℤ)
-  pub middle : List ℤ
-  pub parted : IsParted i at G low high
-  pub one_side : (fewer ≡ low) ⊎ (fewer ≡ high)
-  pub kept : middle ≡ old ++ flat_of low
-  pub closed : IsClosed n i at fewer middle new
+  pub one_side : (fewer ≡ P) ⊎ (fewer ≡ S)
+  pub closed : IsClosed n i at fewer (old ++ flat_of P) new
+
+-- and `above` are the numbers `before` and the rows that just one of the closing rows and S has
+pub record IsCutInTwo (n i : ℕ) (at : ℤ) (P S : List (List ℤ)) (old new before above : List ℤ) : Type 0 where
+  pub cut : IsCut n i at P S old new
+  pub rest : above ≡ before ++ flat_of (merge_xor (map (put (head_of i cut.fewer) at) cut.closed.places) S)

@@ -5,6 +5,7 @@ ghost use Rattle.evm_rows.specs.View.{vertices_of};
 ghost use Rattle.evm_cutting.specs.Cuts.{IsBetween};
 ghost use Rattle.evm_cutting.specs.Splits.{IsSplit, IsSplitAt};
 
+use crate::levels::both_sides;
 use crate::sides::under;
 use evm_rows::{NoMemory, Rows, Solid, limit, xor};
 use std::alloc::Global;
@@ -53,12 +54,18 @@ pub struct Split {
     pub high: Solid,
 }
 
-/// The two sides of a plane. What is above it is the exclusive or of the solid and of what is below: one merge. Takes memory for both
-/// sides, and what `clip` takes.
+/// The two sides of a plane, both in one pass, in which nothing is sorted. Takes memory for two times as many numbers as the solid has,
+/// once, and what `odd_places` takes.
+///
+/// Where the view passes over numbers of its rows, what is below is made as [`crate::under`] does, which sorts there, and what is above
+/// is the exclusive or of the solid and of what is below: one merge.
 pub fn cut_at(alloc: Global, a: Rows<'_>, axis: usize, at: i32) -> Result<Split, NoMemory>
     requires { IsBetween (vertices_of a).dim axis at }
     ensures { IfOk result (IsSplitAt (vertices_of a.entry) axis at) }
 {
+    if a.skip == 0 {
+        return both_sides(alloc, a, axis, at);
+    }
     let low = under(alloc, a, axis, at)?;
     let high = xor(alloc, a, low.rows())?;
     Ok(Split {

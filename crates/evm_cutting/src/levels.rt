@@ -1,15 +1,17 @@
-//! What is below a plane, by the order in which rows stand: no sort.
+//! The two sides of a plane, by the order in which rows stand: no sort.
 
 ghost use Rattle.std.specs.Prelude.{◌≡◌, ◌-◌, ◌%◌, ◌<◌, ◌<ℤ◌, ◌≤◌, ◌++◌, length, map, neg_ℤ, pos, IfOk, OnOk};
 ghost use Rattle.evm_cells.specs.Limits.{limit};
 ghost use Rattle.evm_cells.specs.Vertices.{IsVertexList};
 ghost use Rattle.evm_cells.specs.Windows.{IsReduced};
-ghost use Rattle.evm_rows.specs.Rows.{rows_of, flat_of, cells_of};
+ghost use Rattle.evm_rows.specs.Rows.{rows_of, flat_of, cells_of, merge_xor};
 ghost use Rattle.evm_rows.specs.View.{vertices_of};
-ghost use Rattle.evm_cutting.specs.Cuts.{cells_under};
-ghost use Rattle.evm_cutting.specs.Levels.{lowered, put, IsParted, IsClosed, IsCut};
+ghost use Rattle.evm_cutting.specs.Cuts.{cells_under, IsBetween};
+ghost use Rattle.evm_cutting.specs.Levels.{lowered, put, IsParted, IsClosed, IsCut, IsCutInTwo};
+ghost use Rattle.evm_cutting.specs.Splits.{IsSplitAt};
 
-use evm_rows::{NoMemory, Rows, Solid, first_group, odd_places, split_row};
+use crate::halves::Split;
+use evm_rows::{NoMemory, Rows, Solid, extend_by_xor, first_group, odd_places, split_row};
 use std::alloc::{AllocError, Global};
 
 // The first rows, whose numbers at `axis` are below `at`, and the rows after them, of which the first has no such number. Rows have
@@ -93,30 +95,59 @@ fn append_closing(
     append_put(out, head, at, places.as_slice(), width - axis - 1)
 }
 
-// Appends what a group of rows, which share the numbers before `axis`, has below a height: the rows below it, and the rows that close
-// these. The others of the group have the same closing rows, since lines along the axis have an even number of rows, so the fewer
-// of the two are asked.
-fn append_group(
+// Appends what a group of rows, which share the numbers before `axis`, has below a height: its rows `low` below it, and the rows that
+// close these. The others, `high`, have the same closing rows, since lines along the axis have an even number of rows, so the fewer of
+// the two are asked.
+fn append_low(
     alloc: Global,
     out: &mut Vec<i32>,
-    group: &[i32],
+    low: &[i32],
+    high: &[i32],
     width: usize,
     axis: usize,
     at: i32,
 ) -> Result<(), AllocError>
     requires axis { axis < width }
     requires narrow { width ≤ 6 }
-    requires whole { length group.now % width ≡ 0 }
+    requires low_whole { length low.now % width ≡ 0 }
+    requires high_whole { length high.now % width ≡ 0 }
     ensures { OnOk result
-        (IsCut width axis at (rows_of group.now width 0) out.old.items out.new.items) }
+        (IsCut width axis at (rows_of low.now width 0) (rows_of high.now width 0)
+        out.old.items out.new.items) }
 {
-    let (low, high) = low_rows(group, width, axis, at);
     out.extend_from_slice(low)?;
     if low.len() <= high.len() {
         append_closing(alloc, out, low, width, axis, at)
     } else {
         append_closing(alloc, out, high, width, axis, at)
     }
+}
+
+// Appends to `below` what a group of rows has below a height, as `append_low`, and to `above` what it has above: the closing rows and
+// the others of the group, of which those at the height that are in both cancel. All of these are at the height or above, so one merge
+// puts them in order.
+fn append_both(
+    alloc: Global,
+    below: &mut Vec<i32>,
+    above: &mut Vec<i32>,
+    low: &[i32],
+    high: &[i32],
+    width: usize,
+    axis: usize,
+    at: i32,
+) -> Result<(), AllocError>
+    requires axis { axis < width }
+    requires narrow { width ≤ 6 }
+    requires low_whole { length low.now % width ≡ 0 }
+    requires high_whole { length high.now % width ≡ 0 }
+    ensures { OnOk result
+        (IsCutInTwo width axis at (rows_of low.now width 0) (rows_of high.now width 0)
+        below.old.items below.new.items above.old.items above.new.items) }
+{
+    let kept = below.len() + low.len();
+    append_low(alloc, below, low, high, width, axis, at)?;
+    let (_, closing) = below.as_slice().split_at(kept);
+    extend_by_xor(above, None, width, closing, 0, high, 0)
 }
 
 // The rows, each number at `axis` moved down to `at` where it is above, that then stand an odd number of times.
@@ -140,10 +171,53 @@ fn rows_below(
     let mut rest = flat;
     while rest.len() != 0 {
         let (group, later) = first_group(rest, width, 0, axis);
-        append_group(alloc, &mut out, group, width, axis, at)?;
+        let (low, high) = low_rows(group, width, axis, at);
+        append_low(alloc, &mut out, low, high, width, axis, at)?;
         rest = later;
     }
     Ok(out)
+}
+
+// The rows of both sides of a plane.
+#[derive(Drop)]
+struct Sides {
+    // Those of what is below it.
+    below: Vec<i32>,
+    // Those of what is above it.
+    above: Vec<i32>,
+}
+
+// The rows below as `rows_below`, and above them those that just one of these and the rows has.
+fn rows_of_both(
+    alloc: Global,
+    flat: &[i32],
+    width: usize,
+    axis: usize,
+    at: i32,
+) -> Result<Sides, AllocError>
+    requires axis { axis < width }
+    requires narrow { width ≤ 6 }
+    requires whole { length flat.now % width ≡ 0 }
+    requires vertices { IsVertexList width (rows_of flat.now width 0) }
+    ensures low_whole { IfOk result (λ s. length s.below.items % width ≡ 0) }
+    ensures low { IfOk result
+        (λ s. IsReduced width (map (lowered axis at) (rows_of flat.now width 0))
+        (rows_of s.below.items width 0)) }
+    ensures high_whole { IfOk result (λ s. length s.above.items % width ≡ 0) }
+    ensures high { IfOk result
+        (λ s. rows_of s.above.items width 0
+        ≡ merge_xor (rows_of flat.now width 0) (rows_of s.below.items width 0)) }
+{
+    let mut below = Vec::with_capacity(alloc, flat.len())?;
+    let mut above = Vec::with_capacity(alloc, flat.len())?;
+    let mut rest = flat;
+    while rest.len() != 0 {
+        let (group, later) = first_group(rest, width, 0, axis);
+        let (low, high) = low_rows(group, width, axis, at);
+        append_both(alloc, &mut below, &mut above, low, high, width, axis, at)?;
+        rest = later;
+    }
+    Ok(Sides { below, above })
 }
 
 /// What a solid has below the plane at `at` across an axis, counted from 0. The plane lies strictly within the limits of the
@@ -152,7 +226,8 @@ fn rows_below(
 /// The rows that share the numbers before the axis stand together. Of these, the rows below the plane stay as they are, and the
 /// places that occur an odd number of times behind the axis, put at the plane, come after them: so all rows come out in order, and
 /// nothing is sorted. The places come by merges of halves in which equal ones cancel, as `odd_places` takes them, of the fewer rows
-/// of the two sides. Takes memory for as many numbers as the solid has, once, and what `odd_places` takes.
+/// of the two sides. Makes nothing of what is above. Takes memory for as many numbers as the solid has, once, and what `odd_places`
+/// takes.
 pub(crate) fn below(alloc: Global, a: Rows<'_>, axis: usize, at: i32) -> Result<Solid, NoMemory>
     requires skip { a.skip ≡ 0 }
     requires axis { axis < (vertices_of a).dim }
@@ -163,4 +238,28 @@ pub(crate) fn below(alloc: Global, a: Rows<'_>, axis: usize, at: i32) -> Result<
 {
     let flat = rows_below(alloc, a.flat, a.width, axis, at)?;
     Ok(Solid::from_rows(a.width, flat))
+}
+
+/// The two sides of a plane, in one pass, in which nothing is sorted.
+///
+/// Of the rows that share the numbers before the axis, those of what is below are as in `below`. What is above has the rows that close
+/// them, merged with the group's rows at the plane or above it, where equal ones cancel: so both sides come out in order. Takes memory
+/// for two times as many numbers as the solid has, once, and what `odd_places` takes.
+pub(crate) fn both_sides(
+    alloc: Global,
+    a: Rows<'_>,
+    axis: usize,
+    at: i32,
+) -> Result<Split, NoMemory>
+    requires skip { a.skip ≡ 0 }
+    requires between { IsBetween (vertices_of a).dim axis at }
+    ensures { IfOk result (IsSplitAt (vertices_of a.entry) axis at) }
+{
+    let rows = rows_of_both(alloc, a.flat, a.width, axis, at)?;
+    Ok(Split {
+        axis,
+        at,
+        low: Solid::from_rows(a.width, rows.below),
+        high: Solid::from_rows(a.width, rows.above),
+    })
 }

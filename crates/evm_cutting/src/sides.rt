@@ -6,7 +6,7 @@ ghost use Rattle.evm_rows.specs.Rows.{cells_of};
 ghost use Rattle.evm_rows.specs.View.{vertices_of};
 ghost use Rattle.evm_cutting.specs.Cuts.{cells_under, cells_over};
 
-use crate::levels::below;
+use crate::levels::{below, both_sides};
 use evm_rows::{DIM_MAX, NoMemory, Rows, Solid, limit};
 use evm_shapes::clip;
 use std::alloc::Global;
@@ -34,7 +34,8 @@ pub fn under(alloc: Global, a: Rows<'_>, axis: usize, at: i32) -> Result<Solid, 
 }
 
 /// What a solid has above the plane at `at` across an axis, counted from 0. The plane lies strictly within the limits of the
-/// dimension. Takes memory as `clip` does.
+/// dimension. It is the one side of what [`crate::cut_at`] makes, in the same pass and memory, and sorts nothing; where the view passes
+/// over numbers of its rows, it sorts and takes memory as `clip` does.
 pub fn over(alloc: Global, a: Rows<'_>, axis: usize, at: i32) -> Result<Solid, NoMemory>
     requires axis { axis < (vertices_of a).dim }
     requires low { neg_ℤ (pos (limit (vertices_of a).dim)) <ℤ at }
@@ -43,6 +44,10 @@ pub fn over(alloc: Global, a: Rows<'_>, axis: usize, at: i32) -> Result<Solid, N
     ensures cells { IfOk result (λ s. cells_of s ≡ cells_over axis at (vertices_of a.entry)) }
 {
     let dim = a.dim();
+    if a.skip == 0 {
+        let both = both_sides(alloc, a, axis, at)?;
+        return Ok(both.high);
+    }
     let limit = limit(dim);
     let mut lo = [-limit; DIM_MAX];
     let hi = [limit; DIM_MAX];

@@ -2,9 +2,9 @@ ghost use Rattle.std.specs.Prelude.{◌≡◌};
 
 use crate::booleans::combine_parts;
 use crate::sweeps::sweep;
-use crate::{combine, cut_at};
+use crate::{combine, cut_at, over};
 use evm_boolean::Op2;
-use evm_rows::Solid;
+use evm_rows::{Solid, xor};
 use std::alloc::Global;
 
 // Whether a Boolean of two solids, cut while they have more than four rows, is that of one recursion.
@@ -54,6 +54,23 @@ fn has_right_numbers(alloc: Global) -> Option<(bool, bool)> {
     ))
 }
 
+// Whether the two sides of a plane at which rows of a solid lie, and what is above it alone, have the right numbers, and are the
+// solid together.
+#[tactic(auto, unfolding(evm_cells::specs::Limits::limit))]
+fn cuts_at_a_notch(alloc: Global) -> Option<(bool, bool)> {
+    let a = Solid::of_box(alloc, &[0, 0, 0], &[4, 4, 4]).ok()?;
+    let b = Solid::of_box(alloc, &[0, 1, 2], &[2, 6, 4]).ok()?;
+    let solid = combine(alloc, Op2::Or, a.rows(), b.rows()).ok()?;
+    let cut = cut_at(alloc, solid.rows(), 1, 4).ok()?;
+    let part = over(alloc, solid.rows(), 1, 4).ok()?;
+    let whole = xor(alloc, cut.low.rows(), cut.high.rows()).ok()?;
+    let above = Solid::of_box(alloc, &[0, 4, 2], &[2, 6, 4]).ok()?;
+    Some((
+        cut.low.same(&a) && cut.high.same(&above),
+        part.same(&above) && whole.same(&solid),
+    ))
+}
+
 #[test]
 fn combines_boxes_by_parts(rt: HostRuntime) {
     for op in [Op2::Or, Op2::And, Op2::Sub, Op2::Xor] {
@@ -61,4 +78,5 @@ fn combines_boxes_by_parts(rt: HostRuntime) {
         assert_eq!(rt; walk_agrees(rt.alloc(), op), Some(true), "{op:?}");
     }
     assert_eq!(rt; has_right_numbers(rt.alloc()), Some((true, true)));
+    assert_eq!(rt; cuts_at_a_notch(rt.alloc()), Some((true, true)));
 }

@@ -242,7 +242,7 @@ front_done i w s n flat group later first head some counted deep steps whole gr 
 
 -- ---- places of which nothing is left
 
-empty_places : (w : ℕ) (V : List (List ℤ)) (q : List ℤ) → Wide w V → xsum (λ s. same s q) (map (drop w) V) ≡ (same [] q && odd (length V))
+pub empty_places : (w : ℕ) (V : List (List ℤ)) (q : List ℤ) → Wide w V → xsum (λ s. same s q) (map (drop w) V) ≡ (same [] q && odd (length V))
 unfolding xor
 empty_places w [] q wide = xsum-nil (λ s. same s q) ∙ sym (ap (λ t. same [] q && t) odd-zero ∙ and-false (same [] q))
 empty_places w (p ∷ V) q wide =

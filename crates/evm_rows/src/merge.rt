@@ -166,7 +166,7 @@ fn extend_by_merge(
 /// It is compiled apart for each `dim` from 1 to 5: there a row is compared and copied with no call. Takes memory only where
 /// `out` has no room left. The one error is want of memory.
 #[inline(always)]
-pub(crate) fn extend_by_xor(
+pub fn extend_by_xor(
     out: &mut Vec<i32>,
     height: Option<i32>,
     dim: usize,

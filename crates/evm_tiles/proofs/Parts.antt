@@ -17,7 +17,11 @@ use Rattle.evm_cells.proofs.Universe.{same_sets, cell_set-cells, member_passes}
 use Rattle.evm_cells.proofs.Combine.{cell_set-xor, has-xor_cells}
 use Rattle.evm_cells.proofs.Layers.{cells-empty}
 use Rattle.evm_cells.proofs.Slices.{coord}
+use Rattle.evm_rows.specs.Rows.{Vertices, cells_of}
 use Rattle.evm_shapes.proofs.Missed.{over_none, under_none}
+use Rattle.evm_cutting.specs.Cuts.{cells_under, cells_over}
+use Rattle.evm_cutting.specs.Splits.{IsSplitAt}
+use Rattle.evm_cutting.specs.declared.halves.Split.{Split}
 
 -- a change of the first of two parts
 pub change_first : (n : ℕ) (A B D : List (List ℤ)) → IsCellSet n A → IsCellSet n B → IsCellSet n D → xor_cells n (xor_cells n A D) B ≡ xor_cells n (xor_cells n A B) D
@@ -104,3 +108,13 @@ window_above n i at lo hi A B l f a b h e =
 
 pub window_both : (n : ℕ) (lo hi : List ℤ) (A B : List (List ℤ)) → IsCellSet n A → IsCellSet n B → xor_cells n (clip n lo hi A) (clip n lo hi B) ≡ clip n lo hi (xor_cells n A B)
 window_both n lo hi A B a b = sym (clip_of_xor n lo hi A B a b)
+
+-- the two sides that a plane has of a solid, cut as a view of it
+pub sides_of : (v d : Vertices) (axis : ℕ) (z at : ℤ) (s : Split) → v ≡ d → z ≡ at → IsSplitAt v axis z s
+    → (s.low.dim ≡ d.dim) × (cells_of s.low ≡ cells_under axis at d) × (s.high.dim ≡ d.dim) × (cells_of s.high ≡ cells_over axis at d)
+sides_of v d axis z at s shown e c = (
+  c.split.low_dim ∙ ap (λ (u : Vertices). u.dim) shown,
+  c.split.low_cells ∙ ap₂ (λ (i : ℕ) (y : ℤ). cells_under i y v) c.axis_is (c.at_is ∙ e) ∙ ap (cells_under axis at) shown,
+  c.split.high_dim ∙ ap (λ (u : Vertices). u.dim) shown,
+  c.split.high_cells ∙ ap₂ (λ (i : ℕ) (y : ℤ). cells_over i y v) c.axis_is (c.at_is ∙ e) ∙ ap (cells_over axis at) shown,
+)

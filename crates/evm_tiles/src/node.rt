@@ -11,7 +11,7 @@ ghost use Rattle.evm_cutting.specs.Cuts.{IsBetween, cells_under, cells_over};
 ghost use Rattle.evm_tiles.specs.Splits.{IsApart};
 
 use crate::solids::{Side, both, side_of};
-use evm_cutting::{halved, over, under};
+use evm_cutting::{cut_at, halved};
 use evm_rows::{NoMemory, Rows, Solid, limit};
 use evm_shapes::clip;
 use std::alloc::Global;
@@ -389,10 +389,9 @@ pub(crate) fn changed(
                 Ok(node)
             }
             Side::Both => {
-                let first = under(alloc, d.rows(), *axis, *at)?;
-                let second = over(alloc, d.rows(), *axis, *at)?;
-                let below = changed(alloc, low, &first, axis.saturating_add(1), fuel)?;
-                let above = changed(alloc, high, &second, axis.saturating_add(1), fuel)?;
+                let parts = cut_at(alloc, d.rows(), *axis, *at)?;
+                let below = changed(alloc, low, &parts.low, axis.saturating_add(1), fuel)?;
+                let above = changed(alloc, high, &parts.high, axis.saturating_add(1), fuel)?;
                 let node = joined(alloc, d.dim(), *axis, *at, below, above)?;
                 Ok(node)
             }

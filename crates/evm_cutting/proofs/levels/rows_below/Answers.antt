@@ -27,9 +27,16 @@ loop-rest-preserved c =
     let w = c.args.width in
     let inv = c.loop-rest.invariant in
     let more =
-    cut_group w c.args.axis (to_z w32 (of_z w32 c.args.at)) (rows_of c.args.flat.now w 0) (rows_of c.loop-rest.rest.now w 0) (rows_of c.first_group.result.0.now w 0) (rows_of c.first_group.result.1.now w 0) c.loop-rest.out.items c.append_group.new.out.items
-    (let l = c.requires.axis in omega arith) c.requires.axis (some_rows c.loop-rest.rest.now w (let l = c.requires.axis in omega arith) (let t = c.loop-rest-test.true in omega arith)) inv.made inv.so_far c.first_group.ensures.group c.in_ok-append_group.ensures in
-    record { whole = c.first_group.ensures.whole; made = more.0; so_far = more.1 }
+    cut_group w c.args.axis (to_z w32 (of_z w32 c.args.at)) (rows_of c.args.flat.now w 0) (rows_of c.loop-rest.rest.now w 0) (rows_of c.first_group.result.0.now w 0) (rows_of c.first_group.result.1.now w 0)
+    (rows_of c.low_rows.result.0.now w 0) (rows_of c.low_rows.result.1.now w 0) c.loop-rest.out.items c.append_low.new.out.items
+    (record {
+      within = c.requires.axis;
+      some = some_rows c.loop-rest.rest.now w (let l = c.requires.axis in omega arith) (let t = c.loop-rest-test.true in omega arith);
+      front = c.first_group.ensures.group;
+      parted = c.low_rows.ensures.parts;
+    })
+    inv.made inv.so_far c.in_ok-append_low.ensures in
+    record { whole = c.first_group.ensures.whole; made = more.0; so_far = more.2 }
 
 pub returns-clause-rows : goal.returns-clause-rows
 returns-clause-rows c =

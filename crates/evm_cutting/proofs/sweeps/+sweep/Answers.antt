@@ -1,4 +1,4 @@
-use Rattle.std.proofs.Common.{◌≡◌, ◌-◌, ◌<◌, ◌++◌, ℕ, ℤ, List, [], Some, None, refl, sym, ap, ap₂, ◌∙◌, subst, arith, rules, length, w32}
+use Rattle.std.proofs.Common.{◌≡◌, ◌-◌, ◌<◌, ◌++◌, ℕ, ℤ, List, Some, None, refl, sym, ap, ap₂, ◌∙◌, subst, arith, rules, length, w32}
 use mir.Val.{SFits}
 use Rattle.evm_cells.specs.Vertices.{IsVertexList}
 use Rattle.evm_rows.specs.Rows.{Vertices, rows_of, flat_of, xor_rows, combined_rows, raised}
@@ -7,7 +7,7 @@ use Rattle.evm_rows.proofs.Bridge.{vertices_none}
 use Rattle.evm_sections.specs.Couplets.{first_height}
 use Rattle.evm_sections.proofs.Bits.{same32}
 use Rattle.evm_boolean.specs.declared.boolean.Op2.{Op2}
-use Rattle.evm_boolean.specs.Tower.{lower, after, section_at, couplet_here, fills}
+use Rattle.evm_boolean.specs.Tower.{lower, after, couplet_here, fills}
 use Rattle.evm_boolean.proofs.Cuts.{cuts-fall}
 use Rattle.evm_boolean.proofs.TowerCells.{tower_is_at, fills-none, op-both_none, section-here}
 use Rattle.evm_boolean.proofs.TowerSteps.{tower_more, tower_done}

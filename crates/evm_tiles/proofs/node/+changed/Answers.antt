@@ -1,16 +1,16 @@
 use Rattle.evm_cells.specs.Windows.{is_under, is_over}
 use Rattle.evm_cells.proofs.Sides.{two_sides, cell_set-part}
-use Rattle.std.proofs.Common.{arith, rules, ◌≡◌, ◌-◌, ◌<◌, ◌<ℤ◌, ℕ, IfSome, ℤ, List, true, pos, neg_ℤ, filter, refl, sym, ap, ap₂, ◌∙◌, subst, ltb-true, w32, to_z, of_z, SFits}
+use Rattle.std.proofs.Common.{arith, rules, ◌≡◌, ◌-◌, ◌<◌, ℕ, IfSome, ℤ, List, true, filter, refl, sym, ap, ap₂, ◌∙◌, subst, ltb-true, w32, to_z, of_z, SFits}
 use Rattle.std.specs.List.{list_all}
 use Rattle.evm_cells.specs.Booleans.{xor_cells}
-use Rattle.evm_cells.specs.Limits.{limit}
 use Rattle.evm_cells.proofs.Layers.{filter_all}
 use Rattle.evm_cells.proofs.Universe.{cell_set-cells}
 use Rattle.evm_rows.specs.Rows.{Vertices, cells_of}
+use Rattle.evm_rows.specs.View.{vertices_of}
 use Rattle.evm_rows.proofs.BoxTests.{same32}
 use Rattle.evm_cutting.specs.Cuts.{IsBetween}
 use Rattle.evm_tiles.specs.Trees.{node_cells, node_count, is_well}
-use Rattle.evm_tiles.proofs.Parts.{change_first, change_second, change_both, all-xor}
+use Rattle.evm_tiles.proofs.Parts.{sides_of, change_first, change_second, change_both, all-xor}
 use Rattle.evm_tiles.proofs.Trees.{halves, between_of, cut_cells, leaf_dim, leaf_cells, leaf_count, low_smaller, high_smaller, cell_set-node}
 use Rattle.evm_tiles.proofs.node.+changed.Goals as goal
 
@@ -81,16 +81,24 @@ changed-requires-in-Both t c =
     let n : ℕ = c.args.d.now.dim in
     let h = halves n c.deref.result.now c.in-Cut.axis c.in-Cut.at c.in-Cut.low c.in-Cut.high c.in-Cut.is (ap (is_well n) c.deref.ensures ∙ c.requires) in
     let f = low_smaller c.deref.result.now c.in-Cut.low.value c.in-Cut.axis c.in-Cut.at c.in-Cut.low c.in-Cut.high c.in-Cut.is refl in
+    let fa : SFits w32 c.in-Cut.at = search rules in
+    let z : ℤ = to_z w32 (of_z w32 c.in-Cut.at) in
+    let e : z ≡ c.in-Cut.at = same32 c.in-Cut.at fa in
+    let p = sides_of (vertices_of c.rows-in-Both.result) c.args.d.now c.in-Cut.axis z c.in-Cut.at c.in_ok-parts-in-Both.parts c.rows-in-Both.ensures e c.in_ok-parts-in-Both.ensures in
     let d = c.decreases in
-    (let g = ap node_count c.deref.ensures in omega (arith, f, d, g), ap (λ (m : ℕ). is_well m c.in-Cut.low.value) (c.in_ok-first-in-Both.ensures.dim ∙ ap (λ (v : Vertices). v.dim) c.rows-in-Both.ensures) ∙ h.first)
+    (let g = ap node_count c.deref.ensures in omega (arith, f, d, g), ap (λ (m : ℕ). is_well m c.in-Cut.low.value) p.0 ∙ h.first)
 
 pub changed-requires-in-Both-2 : goal.changed-requires-in-Both-2
 changed-requires-in-Both-2 t c =
     let n : ℕ = c.args.d.now.dim in
     let h = halves n c.deref.result.now c.in-Cut.axis c.in-Cut.at c.in-Cut.low c.in-Cut.high c.in-Cut.is (ap (is_well n) c.deref.ensures ∙ c.requires) in
     let f = high_smaller c.deref.result.now c.in-Cut.high.value c.in-Cut.axis c.in-Cut.at c.in-Cut.low c.in-Cut.high c.in-Cut.is refl in
+    let fa : SFits w32 c.in-Cut.at = search rules in
+    let z : ℤ = to_z w32 (of_z w32 c.in-Cut.at) in
+    let e : z ≡ c.in-Cut.at = same32 c.in-Cut.at fa in
+    let p = sides_of (vertices_of c.rows-in-Both.result) c.args.d.now c.in-Cut.axis z c.in-Cut.at c.in_ok-parts-in-Both.parts c.rows-in-Both.ensures e c.in_ok-parts-in-Both.ensures in
     let d = c.decreases in
-    (let g = ap node_count c.deref.ensures in omega (arith, f, d, g), ap (λ (m : ℕ). is_well m c.in-Cut.high.value) (c.in_ok-second-in-Both.ensures.dim ∙ ap (λ (v : Vertices). v.dim) c.rows-in-Both-2.ensures) ∙ h.second)
+    (let g = ap node_count c.deref.ensures in omega (arith, f, d, g), ap (λ (m : ℕ). is_well m c.in-Cut.high.value) p.2 ∙ h.second)
 
 pub joined-requires-clause-between : goal.joined-requires-clause-between
 joined-requires-clause-between t c =
@@ -188,65 +196,16 @@ joined-requires-in-Above-clause-over t c =
     ∙ ap (λ (y : ℤ). list_all (is_over c.in-Cut.axis y) (node_cells n c.in_ok-above-in-Above.above.value)) e
     ∙ ap (list_all (is_over c.in-Cut.axis c.in-Cut.at)) (c.in_ok-above-in-Above.ensures.cells ∙ ap (λ y. xor_cells n (node_cells n y) D) refl) ∙ all-xor n (is_over c.in-Cut.axis c.in-Cut.at) B D (cell_set-node n c.in-Cut.high.value) (cell_set-cells n c.args.d.now.rows) h.over side
 
-pub under-requires-clause-axis : goal.under-requires-clause-axis
-under-requires-clause-axis t c =
+pub cut_at-requires : goal.cut_at-requires
+cut_at-requires t c =
     let n : ℕ = c.args.d.now.dim in
     let h = halves n c.deref.result.now c.in-Cut.axis c.in-Cut.at c.in-Cut.low c.in-Cut.high c.in-Cut.is (ap (is_well n) c.deref.ensures ∙ c.requires) in
+    let fa : SFits w32 c.in-Cut.at = search rules in
+    let z : ℤ = to_z w32 (of_z w32 c.in-Cut.at) in
+    let e : z ≡ c.in-Cut.at = same32 c.in-Cut.at fa in
     let d : c.rows-in-Both.result.width - c.rows-in-Both.result.skip ≡ n = ap (λ (v : Vertices). v.dim) c.rows-in-Both.ensures in
-    let a = ltb-true c.in-Cut.axis n h.fits in
-    omega (arith, a, d)
-
-pub under-requires-clause-low : goal.under-requires-clause-low
-under-requires-clause-low t c =
-    let n : ℕ = c.args.d.now.dim in
-    let h = halves n c.deref.result.now c.in-Cut.axis c.in-Cut.at c.in-Cut.low c.in-Cut.high c.in-Cut.is (ap (is_well n) c.deref.ensures ∙ c.requires) in
-    let fa : SFits w32 c.in-Cut.at = search rules in
-    let z : ℤ = to_z w32 (of_z w32 c.in-Cut.at) in
-    let e : z ≡ c.in-Cut.at = same32 c.in-Cut.at fa in
-    let dd : c.rows-in-Both.result.width - c.rows-in-Both.result.skip ≡ n = ap (λ (v : Vertices). v.dim) c.rows-in-Both.ensures in
     let b : IsBetween n c.in-Cut.axis c.in-Cut.at = between_of n c.in-Cut.axis c.in-Cut.at c.in-Cut.low.value c.in-Cut.high.value h in
-    subst (λ (m : ℕ). neg_ℤ (pos (limit m)) <ℤ z) (sym dd) (subst (λ (y : ℤ). neg_ℤ (pos (limit n)) <ℤ y) (sym e) b.low)
-
-pub under-requires-clause-high : goal.under-requires-clause-high
-under-requires-clause-high t c =
-    let n : ℕ = c.args.d.now.dim in
-    let h = halves n c.deref.result.now c.in-Cut.axis c.in-Cut.at c.in-Cut.low c.in-Cut.high c.in-Cut.is (ap (is_well n) c.deref.ensures ∙ c.requires) in
-    let fa : SFits w32 c.in-Cut.at = search rules in
-    let z : ℤ = to_z w32 (of_z w32 c.in-Cut.at) in
-    let e : z ≡ c.in-Cut.at = same32 c.in-Cut.at fa in
-    let dd : c.rows-in-Both.result.width - c.rows-in-Both.result.skip ≡ n = ap (λ (v : Vertices). v.dim) c.rows-in-Both.ensures in
-    let b : IsBetween n c.in-Cut.axis c.in-Cut.at = between_of n c.in-Cut.axis c.in-Cut.at c.in-Cut.low.value c.in-Cut.high.value h in
-    subst (λ (m : ℕ). z <ℤ pos (limit m)) (sym dd) (subst (λ (y : ℤ). y <ℤ pos (limit n)) (sym e) b.high)
-
-pub over-requires-clause-axis : goal.over-requires-clause-axis
-over-requires-clause-axis t c =
-    let n : ℕ = c.args.d.now.dim in
-    let h = halves n c.deref.result.now c.in-Cut.axis c.in-Cut.at c.in-Cut.low c.in-Cut.high c.in-Cut.is (ap (is_well n) c.deref.ensures ∙ c.requires) in
-    let d : c.rows-in-Both-2.result.width - c.rows-in-Both-2.result.skip ≡ n = ap (λ (v : Vertices). v.dim) c.rows-in-Both-2.ensures in
-    let a = ltb-true c.in-Cut.axis n h.fits in
-    omega (arith, a, d)
-
-pub over-requires-clause-low : goal.over-requires-clause-low
-over-requires-clause-low t c =
-    let n : ℕ = c.args.d.now.dim in
-    let h = halves n c.deref.result.now c.in-Cut.axis c.in-Cut.at c.in-Cut.low c.in-Cut.high c.in-Cut.is (ap (is_well n) c.deref.ensures ∙ c.requires) in
-    let fa : SFits w32 c.in-Cut.at = search rules in
-    let z : ℤ = to_z w32 (of_z w32 c.in-Cut.at) in
-    let e : z ≡ c.in-Cut.at = same32 c.in-Cut.at fa in
-    let dd : c.rows-in-Both-2.result.width - c.rows-in-Both-2.result.skip ≡ n = ap (λ (v : Vertices). v.dim) c.rows-in-Both-2.ensures in
-    let b : IsBetween n c.in-Cut.axis c.in-Cut.at = between_of n c.in-Cut.axis c.in-Cut.at c.in-Cut.low.value c.in-Cut.high.value h in
-    subst (λ (m : ℕ). neg_ℤ (pos (limit m)) <ℤ z) (sym dd) (subst (λ (y : ℤ). neg_ℤ (pos (limit n)) <ℤ y) (sym e) b.low)
-
-pub over-requires-clause-high : goal.over-requires-clause-high
-over-requires-clause-high t c =
-    let n : ℕ = c.args.d.now.dim in
-    let h = halves n c.deref.result.now c.in-Cut.axis c.in-Cut.at c.in-Cut.low c.in-Cut.high c.in-Cut.is (ap (is_well n) c.deref.ensures ∙ c.requires) in
-    let fa : SFits w32 c.in-Cut.at = search rules in
-    let z : ℤ = to_z w32 (of_z w32 c.in-Cut.at) in
-    let e : z ≡ c.in-Cut.at = same32 c.in-Cut.at fa in
-    let dd : c.rows-in-Both-2.result.width - c.rows-in-Both-2.result.skip ≡ n = ap (λ (v : Vertices). v.dim) c.rows-in-Both-2.ensures in
-    let b : IsBetween n c.in-Cut.axis c.in-Cut.at = between_of n c.in-Cut.axis c.in-Cut.at c.in-Cut.low.value c.in-Cut.high.value h in
-    subst (λ (m : ℕ). z <ℤ pos (limit m)) (sym dd) (subst (λ (y : ℤ). y <ℤ pos (limit n)) (sym e) b.high)
+    subst (λ (m : ℕ). IsBetween m c.in-Cut.axis z) (sym d) (subst (λ (y : ℤ). IsBetween n c.in-Cut.axis y) (sym e) b)
 
 pub joined-requires-in-Both-clause-under : goal.joined-requires-in-Both-clause-under
 joined-requires-in-Both-clause-under t c =
@@ -255,13 +214,14 @@ joined-requires-in-Both-clause-under t c =
     let fa : SFits w32 c.in-Cut.at = search rules in
     let z : ℤ = to_z w32 (of_z w32 c.in-Cut.at) in
     let e : z ≡ c.in-Cut.at = same32 c.in-Cut.at fa in
+    let p = sides_of (vertices_of c.rows-in-Both.result) c.args.d.now c.in-Cut.axis z c.in-Cut.at c.in_ok-parts-in-Both.parts c.rows-in-Both.ensures e c.in_ok-parts-in-Both.ensures in
     let A : List (List ℤ) = node_cells n c.in-Cut.low.value in
     let B : List (List ℤ) = node_cells n c.in-Cut.high.value in
     let D : List (List ℤ) = cells_of c.args.d.now in
     let F : List (List ℤ) = filter (is_under c.in-Cut.axis c.in-Cut.at) D in
     let G : List (List ℤ) = filter (is_over c.in-Cut.axis c.in-Cut.at) D in
-    let q : node_cells n c.in_ok-below-in-Both.below.value ≡ xor_cells n A F = sym (ap (λ (m : ℕ). node_cells m c.in_ok-below-in-Both.below.value) (c.in_ok-first-in-Both.ensures.dim ∙ ap (λ (v : Vertices). v.dim) c.rows-in-Both.ensures)) ∙ c.in_ok-below-in-Both.ensures.cells ∙ ap (λ (m : ℕ). xor_cells m (node_cells m c.in-Cut.low.value) (cells_of c.in_ok-first-in-Both.first)) (c.in_ok-first-in-Both.ensures.dim ∙ ap (λ (v : Vertices). v.dim) c.rows-in-Both.ensures)
-    ∙ ap₂ (λ X Y. xor_cells n X Y) refl (c.in_ok-first-in-Both.ensures.cells ∙ ap (λ (v : Vertices). filter (is_under c.in-Cut.axis z) (cells_of v)) c.rows-in-Both.ensures ∙ ap (λ (y : ℤ). filter (is_under c.in-Cut.axis y) D) e) in
+    let q : node_cells n c.in_ok-below-in-Both.below.value ≡ xor_cells n A F = sym (ap (λ (m : ℕ). node_cells m c.in_ok-below-in-Both.below.value) p.0) ∙ c.in_ok-below-in-Both.ensures.cells ∙ ap (λ (m : ℕ). xor_cells m (node_cells m c.in-Cut.low.value) (cells_of c.in_ok-parts-in-Both.parts.low)) p.0
+    ∙ ap₂ (λ X Y. xor_cells n X Y) refl p.1 in
     ap (λ (m : ℕ). list_all (is_under c.in-Cut.axis z) (node_cells m c.in_ok-below-in-Both.below.value)) c.dim-in-Both.ensures
     ∙ ap (λ (y : ℤ). list_all (is_under c.in-Cut.axis y) (node_cells n c.in_ok-below-in-Both.below.value)) e
     ∙ ap (list_all (is_under c.in-Cut.axis c.in-Cut.at)) q ∙ all-xor n (is_under c.in-Cut.axis c.in-Cut.at) A F (cell_set-node n c.in-Cut.low.value) (cell_set-part n (is_under c.in-Cut.axis c.in-Cut.at) D (cell_set-cells n c.args.d.now.rows)) h.under (filter_all (is_under c.in-Cut.axis c.in-Cut.at) D)
@@ -273,13 +233,14 @@ joined-requires-in-Both-clause-over t c =
     let fa : SFits w32 c.in-Cut.at = search rules in
     let z : ℤ = to_z w32 (of_z w32 c.in-Cut.at) in
     let e : z ≡ c.in-Cut.at = same32 c.in-Cut.at fa in
+    let p = sides_of (vertices_of c.rows-in-Both.result) c.args.d.now c.in-Cut.axis z c.in-Cut.at c.in_ok-parts-in-Both.parts c.rows-in-Both.ensures e c.in_ok-parts-in-Both.ensures in
     let A : List (List ℤ) = node_cells n c.in-Cut.low.value in
     let B : List (List ℤ) = node_cells n c.in-Cut.high.value in
     let D : List (List ℤ) = cells_of c.args.d.now in
     let F : List (List ℤ) = filter (is_under c.in-Cut.axis c.in-Cut.at) D in
     let G : List (List ℤ) = filter (is_over c.in-Cut.axis c.in-Cut.at) D in
-    let q : node_cells n c.in_ok-above-in-Both.above.value ≡ xor_cells n B G = sym (ap (λ (m : ℕ). node_cells m c.in_ok-above-in-Both.above.value) (c.in_ok-second-in-Both.ensures.dim ∙ ap (λ (v : Vertices). v.dim) c.rows-in-Both-2.ensures)) ∙ c.in_ok-above-in-Both.ensures.cells ∙ ap (λ (m : ℕ). xor_cells m (node_cells m c.in-Cut.high.value) (cells_of c.in_ok-second-in-Both.second)) (c.in_ok-second-in-Both.ensures.dim ∙ ap (λ (v : Vertices). v.dim) c.rows-in-Both-2.ensures)
-    ∙ ap₂ (λ X Y. xor_cells n X Y) refl (c.in_ok-second-in-Both.ensures.cells ∙ ap (λ (v : Vertices). filter (is_over c.in-Cut.axis z) (cells_of v)) c.rows-in-Both-2.ensures ∙ ap (λ (y : ℤ). filter (is_over c.in-Cut.axis y) D) e) in
+    let q : node_cells n c.in_ok-above-in-Both.above.value ≡ xor_cells n B G = sym (ap (λ (m : ℕ). node_cells m c.in_ok-above-in-Both.above.value) p.2) ∙ c.in_ok-above-in-Both.ensures.cells ∙ ap (λ (m : ℕ). xor_cells m (node_cells m c.in-Cut.high.value) (cells_of c.in_ok-parts-in-Both.parts.high)) p.2
+    ∙ ap₂ (λ X Y. xor_cells n X Y) refl p.3 in
     ap (λ (m : ℕ). list_all (is_over c.in-Cut.axis z) (node_cells m c.in_ok-above-in-Both.above.value)) c.dim-in-Both.ensures
     ∙ ap (λ (y : ℤ). list_all (is_over c.in-Cut.axis y) (node_cells n c.in_ok-above-in-Both.above.value)) e
     ∙ ap (list_all (is_over c.in-Cut.axis c.in-Cut.at)) q ∙ all-xor n (is_over c.in-Cut.axis c.in-Cut.at) B G (cell_set-node n c.in-Cut.high.value) (cell_set-part n (is_over c.in-Cut.axis c.in-Cut.at) D (cell_set-cells n c.args.d.now.rows)) h.over (filter_all (is_over c.in-Cut.axis c.in-Cut.at) D)
@@ -314,16 +275,17 @@ returns-in_ok-node-in-Both-clause-cells t c =
     let fa : SFits w32 c.in-Cut.at = search rules in
     let z : ℤ = to_z w32 (of_z w32 c.in-Cut.at) in
     let e : z ≡ c.in-Cut.at = same32 c.in-Cut.at fa in
+    let p = sides_of (vertices_of c.rows-in-Both.result) c.args.d.now c.in-Cut.axis z c.in-Cut.at c.in_ok-parts-in-Both.parts c.rows-in-Both.ensures e c.in_ok-parts-in-Both.ensures in
     let A : List (List ℤ) = node_cells n c.in-Cut.low.value in
     let B : List (List ℤ) = node_cells n c.in-Cut.high.value in
     let D : List (List ℤ) = cells_of c.args.d.now in
     let F : List (List ℤ) = filter (is_under c.in-Cut.axis c.in-Cut.at) D in
     let G : List (List ℤ) = filter (is_over c.in-Cut.axis c.in-Cut.at) D in
     let D_set = cell_set-cells n c.args.d.now.rows in
-    let q : node_cells n c.in_ok-below-in-Both.below.value ≡ xor_cells n A F = sym (ap (λ (m : ℕ). node_cells m c.in_ok-below-in-Both.below.value) (c.in_ok-first-in-Both.ensures.dim ∙ ap (λ (v : Vertices). v.dim) c.rows-in-Both.ensures)) ∙ c.in_ok-below-in-Both.ensures.cells ∙ ap (λ (m : ℕ). xor_cells m (node_cells m c.in-Cut.low.value) (cells_of c.in_ok-first-in-Both.first)) (c.in_ok-first-in-Both.ensures.dim ∙ ap (λ (v : Vertices). v.dim) c.rows-in-Both.ensures)
-    ∙ ap₂ (λ X Y. xor_cells n X Y) refl (c.in_ok-first-in-Both.ensures.cells ∙ ap (λ (v : Vertices). filter (is_under c.in-Cut.axis z) (cells_of v)) c.rows-in-Both.ensures ∙ ap (λ (y : ℤ). filter (is_under c.in-Cut.axis y) D) e) in
-    let r : node_cells n c.in_ok-above-in-Both.above.value ≡ xor_cells n B G = sym (ap (λ (m : ℕ). node_cells m c.in_ok-above-in-Both.above.value) (c.in_ok-second-in-Both.ensures.dim ∙ ap (λ (v : Vertices). v.dim) c.rows-in-Both-2.ensures)) ∙ c.in_ok-above-in-Both.ensures.cells ∙ ap (λ (m : ℕ). xor_cells m (node_cells m c.in-Cut.high.value) (cells_of c.in_ok-second-in-Both.second)) (c.in_ok-second-in-Both.ensures.dim ∙ ap (λ (v : Vertices). v.dim) c.rows-in-Both-2.ensures)
-    ∙ ap₂ (λ X Y. xor_cells n X Y) refl (c.in_ok-second-in-Both.ensures.cells ∙ ap (λ (v : Vertices). filter (is_over c.in-Cut.axis z) (cells_of v)) c.rows-in-Both-2.ensures ∙ ap (λ (y : ℤ). filter (is_over c.in-Cut.axis y) D) e) in
+    let q : node_cells n c.in_ok-below-in-Both.below.value ≡ xor_cells n A F = sym (ap (λ (m : ℕ). node_cells m c.in_ok-below-in-Both.below.value) p.0) ∙ c.in_ok-below-in-Both.ensures.cells ∙ ap (λ (m : ℕ). xor_cells m (node_cells m c.in-Cut.low.value) (cells_of c.in_ok-parts-in-Both.parts.low)) p.0
+    ∙ ap₂ (λ X Y. xor_cells n X Y) refl p.1 in
+    let r : node_cells n c.in_ok-above-in-Both.above.value ≡ xor_cells n B G = sym (ap (λ (m : ℕ). node_cells m c.in_ok-above-in-Both.above.value) p.2) ∙ c.in_ok-above-in-Both.ensures.cells ∙ ap (λ (m : ℕ). xor_cells m (node_cells m c.in-Cut.high.value) (cells_of c.in_ok-parts-in-Both.parts.high)) p.2
+    ∙ ap₂ (λ X Y. xor_cells n X Y) refl p.3 in
     sym (ap (λ (m : ℕ). node_cells m c.in_ok-node-in-Both.node.value) c.dim-in-Both.ensures) ∙ c.in_ok-node-in-Both.ensures.cells
     ∙ ap (λ (m : ℕ). xor_cells m (node_cells m c.in_ok-below-in-Both.below.value) (node_cells m c.in_ok-above-in-Both.above.value)) c.dim-in-Both.ensures
     ∙ ap₂ (λ X Y. xor_cells n X Y) (q) (r)

@@ -1,4 +1,4 @@
-use Rattle.std.proofs.Common.{◌≡◌, subst}
+use Rattle.std.proofs.Common.{subst}
 use Rattle.evm_cells.proofs.Core.{vertices-evm}
 use Rattle.evm_rows.specs.Rows.{Vertices, IsSolid}
 use Rattle.evm_tiles.specs.Trees.{node_cells}
