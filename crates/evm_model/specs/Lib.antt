@@ -9,4 +9,5 @@ pub mod Reports
 pub mod Replies
 pub mod Steps
 pub mod Runs
+pub mod LineWork
 pub mod Laws

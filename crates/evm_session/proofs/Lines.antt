@@ -8,6 +8,7 @@ use Rattle.evm_model.specs.Files.{no_files}
 use Rattle.evm_model.specs.Scene.{Scene}
 use Rattle.evm_model.specs.Replies.{Empty, reply_text}
 use Rattle.evm_model.specs.Steps.{turn_of, line_turn, step, stays, of_line, command_fetches, command_asks, fetches, asks}
+use Rattle.evm_model.specs.LineWork.{read_work, line_work}
 use Rattle.evm_session.specs.Carried.{Carries}
 use Rattle.evm_session.specs.Requests.{Request, request_of, line_request}
 use Rattle.evm_session.proofs.Turns.{carried}
@@ -23,11 +24,15 @@ blank scene before = carried scene scene before before Empty (stays scene Empty)
 
 -- what a line asks that was read so
 abbrev pub read_request : Scene → Result Command LineError → Request
-read_request scene read =
-    record { turns = λ fetched. line_turn fetched scene read; fetches = of_line (command_fetches scene) read; asks = of_line (command_asks scene) read }
+read_request scene read = record {
+  turns = λ fetched. line_turn fetched scene read;
+  works = λ fetched. read_work fetched scene read;
+  fetches = of_line (command_fetches scene) read;
+  asks = of_line (command_asks scene) read;
+}
 
 pub request_read : (scene : Scene) (line : List ℕ) (r : Result Command LineError) → command line ≡ r → line_request scene line ≡ read_request scene r
-unfolding step fetches asks
+unfolding step line_work fetches asks
 request_read scene line r e = ap (read_request scene) e
 
 -- a line that is a command asks what the command does

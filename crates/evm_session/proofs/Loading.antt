@@ -1,7 +1,7 @@
 -- Loads and saves, as the model states them.
-use Rattle.std.proofs.Common.{◌≡◌, ℕ, ◌==◌, Bool, true, false, not, cond, List, [], ◌∷◌, ◌++◌, Option, Some, None, is_none, Result, Ok, Err, length, ℤ, nat_abs, refl, sym, ap, ◌∙◌, subst}
+use Rattle.std.proofs.Common.{◌≡◌, ℕ, ◌+◌, ◌≤◌, ◌==◌, Bool, true, false, not, cond, if◌then◌else◌, List, [], ◌∷◌, ◌++◌, Option, Some, None, is_some, is_none, Result, Ok, Err, length, ℤ, nat_abs, refl, sym, ap, ◌∙◌, subst, arith}
 use Rattle.std.proofs.lemmas.Bool.Decides.{Decides-eqb}
-use Rattle.evm_outside.specs.Shelves.{Files, KeepsFiles, HasFile, PlacesFile}
+use Rattle.evm_outside.specs.Shelves.{KeepsFiles, HasFile, PlacesFile}
 use Rattle.evm_formats.specs.BoxFile.{file_cells}
 use Rattle.evm_formats.specs.Pgm.{pgm_cells}
 use Rattle.evm_formats.specs.Y4m.{y4m_cells}
@@ -10,14 +10,16 @@ use Rattle.evm_script.specs.declared.files.LoadForm.{LoadForm}
 use Rattle.evm_script.specs.declared.files.LoadForm.TheVariants as forms
 use Rattle.evm_script.specs.declared.files.SaveForm.{SaveForm}
 use Rattle.evm_model.specs.Figures.{Figure}
-use Rattle.evm_model.specs.Files.{Fetches, figure_in, figure_stated, or_nothing, form_fits, form_in_range, save_fits, bytes_in}
+use Rattle.evm_model.specs.Files.{Fetches, figure_in, figure_fetched, figure_stated, or_nothing, form_fits, form_in_range, save_fits, bytes_in}
 use Rattle.evm_model.specs.Scene.{Scene, stands, is_input, dim_of, value}
 use Rattle.evm_model.specs.Edits.{Code, Name, Kind, Dim, Range, Missing, Form, Replace, first_cause, value_causes, after, changed}
 use Rattle.evm_model.specs.Replies.{No, Changed, Measured, reply_text}
+use Rattle.evm_model.specs.Work.{work}
+use Rattle.evm_model.specs.LineWork.{load_work}
 use Rattle.evm_model.specs.Steps.{Turn, stays, unless_refused, edited, load_causes, file_causes, loaded, load_turn, save_causes, saved}
 use Rattle.evm_session.specs.declared.refusals.Refusal.{Refusal}
 use Rattle.evm_session.specs.declared.refusals.Refusal.TheVariants as refusals
-use Rattle.evm_session.specs.Answers.{ShelfView}
+use Rattle.evm_session.specs.Answers.{Around}
 use Rattle.evm_session.specs.Carried.{Carries}
 use Rattle.evm_session.specs.Loads.{ReadsFigure}
 use Rattle.evm_session.specs.Refusals.{code_of}
@@ -157,27 +159,49 @@ load_edits scene name form file bytes a h e =
 -- ---- over the shelf
 
 -- a load that is refused before its file is fetched
-pub load_early : (refusal : Refusal) (scene : Scene) (name : List ℕ) (form : LoadForm) (file before : List ℕ) (shelf : ShelfView) → first_cause (load_causes scene name form) ≡ Some (code_of refusal)
-    → CarriesOver (Err refusal) scene scene before before shelf shelf (request_of scene (commands.Load name form file))
-load_early refusal scene name form file before shelf h =
+pub load_early : (refusal : Refusal) (scene : Scene) (name : List ℕ) (form : LoadForm) (file before : List ℕ) (around : Around) → first_cause (load_causes scene name form) ≡ Some (code_of refusal)
+    → CarriesOver (Err refusal) scene scene before before around around (request_of scene (commands.Load name form file))
+load_early refusal scene name form file before around h =
     let quiet : code_of_shelf (code_of refusal) ≡ false = sym (ap maybe_of_shelf h) ∙ quiet_first (load_causes scene name form) refl in
-    carried_alone (Err refusal) scene scene before before shelf (request_of scene (commands.Load name form file)) (stays scene (No (code_of refusal)))
-    (ap (λ (o : Option Code). is_none o) h) (λ fetched. load_refused fetched scene name form file (code_of refusal) h) (record { reply = quiet; placed = refl })
+    carried_alone (Err refusal) scene scene before before around around (request_of scene (commands.Load name form file)) (stays scene (No (code_of refusal))) refl refl refl
+    (λ fetched. load_refused fetched scene name form file (code_of refusal) h) (λ fetched. omega arith) (record { reply = quiet; placed = refl })
     (refusal_itself refusal scene, text_itself refusal before, refl)
 
+-- the work of a load by what its fetch gave
+abbrev pub load_work_by : Scene → List ℕ → LoadForm → List ℕ → Option (List ℕ) → ℕ
+load_work_by scene name form file got = load_work (λ _. got) scene name form file
+
+load_work_same : (scene : Scene) (name : List ℕ) (form : LoadForm) (file : List ℕ) (got : Option (List ℕ)) (fetched : Fetches) → fetched file ≡ got → load_work fetched scene name form file ≡ load_work_by scene name form file got
+load_work_same scene name form file got fetched e = rw e refl
+
+-- the work of a load by the figure that its file states
+abbrev pub figure_work : Scene → List ℕ → Option Figure → ℕ
+figure_work scene name found = if is_some (first_cause ((is_none found, Form) ∷ [])) then 0 else work scene (Replace name (or_nothing (dim_of scene name) found))
+
+-- it is that of the edit that puts the figure there
+pub load_works : (scene : Scene) (name : List ℕ) (form : LoadForm) (file bytes : List ℕ) (a : Figure) → first_cause (load_causes scene name form) ≡ None → figure_in form (dim_of scene name) bytes ≡ Some a
+    → work scene (Replace name a) ≡ load_work_by scene name form file (Some bytes)
+load_works scene name form file bytes a h e =
+    sym (ap (λ (o : Option Code). if is_some o then 0 else work scene (Replace name (loaded (λ _. Some bytes) scene name form file)))
+    (past_four (not (stands scene name)) (not (is_input scene name)) (not (form_fits form (dim_of scene name))) (not (form_in_range form))
+    ((is_none (Some bytes), Missing) ∷ (is_none (figure_fetched form (dim_of scene name) (Some bytes)), Form) ∷ []) h)
+    ∙ ap (figure_work scene name) e)
+
 -- the turn of a load that fetched
-pub load_turn_of : (files : Option Files) (scene : Scene) (name : List ℕ) (form : LoadForm) (file : List ℕ) (got : Option (List ℕ)) → first_cause (load_causes scene name form) ≡ None → HasFile files file got
-    → IsTurnOf files (request_of scene (commands.Load name form file)) (load_by scene name form file got)
-load_turn_of files scene name form file got h has =
-    fetched_turn files (request_of scene (commands.Load name form file)) file (load_by scene name form file) got (ap (λ (o : Option Code). is_none o) h) (λ fetched. refl) has
+pub load_turn_of : (old new : Around) (scene : Scene) (name : List ℕ) (form : LoadForm) (file : List ℕ) (got : Option (List ℕ)) → first_cause (load_causes scene name form) ≡ None → HasFile old.files file got
+    → new.steps ≤ old.steps + load_work_by scene name form file got → IsTurnOf old new (request_of scene (commands.Load name form file)) (load_by scene name form file got)
+load_turn_of old new scene name form file got h has few =
+    fetched_turn old new (request_of scene (commands.Load name form file)) file (load_by scene name form file) (load_work_by scene name form file) got (ap (λ (o : Option Code). is_none o) h)
+    (λ fetched. refl) (λ got fetched e. load_work_same scene name form file got fetched e) has few
 
 -- a load whose file was fetched
-pub load_over : (r : Result (Unit {0}) Refusal) (old new : Scene) (before now : List ℕ) (shelf_old shelf_new : ShelfView) (name : List ℕ) (form : LoadForm) (file bytes : List ℕ)
-    → first_cause (load_causes old name form) ≡ None → HasFile shelf_old.files file (Some bytes) → KeepsFiles shelf_old.files shelf_new.files → shelf_new.faults ≡ shelf_old.faults → shelf_new.misses ≡ shelf_old.misses
-    → Carries r old new before now (load_by old name form file (Some bytes)) → CarriesOver r old new before now shelf_old shelf_new (request_of old (commands.Load name form file))
-load_over r old new before now shelf_old shelf_new name form file bytes h has kept faults misses carried =
-    carried_quiet r old new before now shelf_old shelf_new (request_of old (commands.Load name form file)) (load_by old name form file (Some bytes))
-    (load_turn_of shelf_old.files old name form file (Some bytes) h has)
+pub load_over : (r : Result (Unit {0}) Refusal) (old new : Scene) (before now : List ℕ) (around_old around_new : Around) (name : List ℕ) (form : LoadForm) (file bytes : List ℕ)
+    → first_cause (load_causes old name form) ≡ None → HasFile around_old.files file (Some bytes) → KeepsFiles around_old.files around_new.files → around_new.faults ≡ around_old.faults → around_new.misses ≡ around_old.misses
+    → around_new.steps ≤ around_old.steps + load_work_by old name form file (Some bytes)
+    → Carries r old new before now (load_by old name form file (Some bytes)) → CarriesOver r old new before now around_old around_new (request_of old (commands.Load name form file))
+load_over r old new before now around_old around_new name form file bytes h has kept faults misses few carried =
+    carried_quiet r old new before now around_old around_new (request_of old (commands.Load name form file)) (load_by old name form file (Some bytes))
+    (load_turn_of around_old around_new old name form file (Some bytes) h has few)
     (quiet_turn (load_causes old name form ++ file_causes (λ _. Some bytes) old name form file) old (replaced old name (loaded (λ _. Some bytes) old name form file)) refl (record { reply = refl; placed = refl })) kept faults misses carried
 
 -- a load whose file was fetched and not read
@@ -195,25 +219,25 @@ save_by scene name form turn b s f =
     ∙ ap (λ (t : Bool). unless_refused (first_cause ((not t, Dim) ∷ [])) scene turn) f
 
 -- a save in a form that has no solids of the dimension
-pub save_unfit : (scene : Scene) (name : List ℕ) (form : SaveForm) (file before : List ℕ) (shelf : ShelfView) → stands scene name ≡ true → save_fits form (dim_of scene name) ≡ false
-    → CarriesOver (Err refusals.Dim) scene scene before before shelf shelf (request_of scene (commands.Save name form file))
-save_unfit scene name form file before shelf s f =
-    carried_alone (Err refusals.Dim) scene scene before before shelf (request_of scene (commands.Save name form file)) (stays scene (No Dim)) refl
-    (λ fetched. save_by scene name form (saved scene file (bytes_in form (value scene name))) false s f) (record { reply = refl; placed = refl }) (refl, refl, refl)
+pub save_unfit : (scene : Scene) (name : List ℕ) (form : SaveForm) (file before : List ℕ) (around : Around) → stands scene name ≡ true → save_fits form (dim_of scene name) ≡ false
+    → CarriesOver (Err refusals.Dim) scene scene before before around around (request_of scene (commands.Save name form file))
+save_unfit scene name form file before around s f =
+    carried_alone (Err refusals.Dim) scene scene before before around around (request_of scene (commands.Save name form file)) (stays scene (No Dim)) refl refl refl
+    (λ fetched. save_by scene name form (saved scene file (bytes_in form (value scene name))) false s f) (λ fetched. omega arith) (record { reply = refl; placed = refl }) (refl, refl, refl)
 
 -- a save whose file was placed
-pub save_done : (scene : Scene) (name : List ℕ) (form : SaveForm) (file bytes before now : List ℕ) (shelf_old shelf_new : ShelfView) → stands scene name ≡ true → save_fits form (dim_of scene name) ≡ true → bytes ≡ bytes_in form (value scene name)
-    → now ≡ before ++ reply_text (Measured (length bytes)) → PlacesFile shelf_old.files shelf_new.files file bytes → shelf_new.faults ≡ shelf_old.faults → shelf_new.misses ≡ shelf_old.misses
-    → CarriesOver (Ok tt) scene scene before now shelf_old shelf_new (request_of scene (commands.Save name form file))
-save_done scene name form file bytes before now shelf_old shelf_new s f e text placed faults misses = record {
+pub save_done : (scene : Scene) (name : List ℕ) (form : SaveForm) (file bytes before now : List ℕ) (around_old around_new : Around) → stands scene name ≡ true → save_fits form (dim_of scene name) ≡ true → bytes ≡ bytes_in form (value scene name)
+    → now ≡ before ++ reply_text (Measured (length bytes)) → PlacesFile around_old.files around_new.files file bytes → around_new.faults ≡ around_old.faults → around_new.misses ≡ around_old.misses
+    → around_new.steps ≤ around_old.steps → CarriesOver (Ok tt) scene scene before now around_old around_new (request_of scene (commands.Save name form file))
+save_done scene name form file bytes before now around_old around_new s f e text placed faults misses few = record {
   turn = saved scene file bytes;
-  made = one_turn shelf_old.files (request_of scene (commands.Save name form file)) (saved scene file bytes) refl
-      (λ fetched. save_by scene name form (saved scene file (bytes_in form (value scene name))) true s f ∙ ap (saved scene file) (sym e));
+  made = one_turn around_old around_new (request_of scene (commands.Save name form file)) (saved scene file bytes)
+      (λ fetched. save_by scene name form (saved scene file (bytes_in form (value scene name))) true s f ∙ ap (saved scene file) (sym e)) (λ fetched. omega (arith, few));
   text = text;
   fine = refl;
   scene = refl;
-  told = placed_told shelf_old.files shelf_new.files file bytes placed;
-  files = placed_files shelf_old.files shelf_new.files file bytes placed;
+  told = placed_told around_old.files around_new.files file bytes placed;
+  files = placed_files around_old.files around_new.files file bytes placed;
   faults = faults;
   misses = misses;
 }

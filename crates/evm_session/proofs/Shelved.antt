@@ -1,5 +1,5 @@
 -- Commands over a shelf of files: which turns do not speak of the shelf, and what they leave.
-use Rattle.std.proofs.Common.{◌≡◌, ℕ, Bool, true, false, not, ◌&&◌, cond, List, [], ◌∷◌, Option, Some, None, is_some, Result, Ok, Err, nat_abs, refl, sym, ap, ◌∙◌, subst, arith}
+use Rattle.std.proofs.Common.{◌≡◌, ℕ, ◌+◌, ◌≤◌, Bool, true, false, not, ◌&&◌, cond, List, [], ◌∷◌, Option, Some, None, is_some, Result, Ok, Err, nat_abs, refl, sym, ap, ◌∙◌, subst, arith}
 use Rattle.std.specs.List.{list_all}
 use Rattle.std.proofs.lemmas.Bool.{false≢true}
 use Rattle.evm_cells.proofs.Xor.{and_first, and_second}
@@ -14,14 +14,15 @@ use Rattle.evm_model.specs.Edits.{Edit, Input, Toggle, Add, Cut, Replace, Def, D
 use Rattle.evm_model.specs.Edits as codes
 use Rattle.evm_model.specs.Replies.{Reply, Empty, No, Changed, Shown, Measured, Filled, Placed, Faced, Parted, Reported, Listed}
 use Rattle.evm_model.specs.Reports.{reported}
-use Rattle.evm_model.specs.Steps.{Turn, stays, unless_refused, edited, asked, read_off, turn_of, command_fetches}
+use Rattle.evm_model.specs.Steps.{Turn, stays, unless_refused, edited, asked, read_off, turn_of}
+use Rattle.evm_model.specs.LineWork.{command_work}
 use Rattle.evm_model.specs.Runs.{fetched_from, with_placed}
 use Rattle.evm_session.specs.declared.refusals.Refusal.{Refusal}
 use Rattle.evm_session.specs.declared.refusals.Refusal.TheVariants as refusals
-use Rattle.evm_session.specs.Answers.{ShelfView, told_files, AreFiles}
+use Rattle.evm_session.specs.Answers.{Around, told_files, AreFiles}
 use Rattle.evm_session.specs.Carried.{Carries, IsRefusalOf}
 use Rattle.evm_session.specs.Says.{Extends}
-use Rattle.evm_session.specs.Requests.{Request, request_of, names_file, IsTurnBy, IsTurnOf, HasCause, CarriesOver}
+use Rattle.evm_session.specs.Requests.{Request, request_of, names_file, IsSoBy, IsSoOver, IsTurnWith, IsTurnOf, HasCause, CarriesOver}
 
 -- whether a code, and whether a reply speaks of the shelf
 abbrev pub code_of_shelf : Code → Bool
@@ -119,28 +120,53 @@ quiet_command scene (commands.Parts name) h = quiet_asked (name_causes scene nam
 quiet_command scene (commands.Report name) h = quiet_asked (name_causes scene name) scene (Reported (reported scene name)) refl refl
 quiet_command scene (commands.Save name form file) h = absurd (false≢true (sym h))
 
--- it fetches none, and so has its turn whatever fetches give
-pub fetches_none : (scene : Scene) (c : Command) → names_file c ≡ false → command_fetches scene c ≡ false
-fetches_none scene (commands.Load name form file) h = absurd (false≢true (sym h))
-fetches_none scene c h = refl
-
+-- it has its turn and its work whatever fetches give
 pub same_turn : (scene : Scene) (c : Command) (fetched : Fetches) → names_file c ≡ false → turn_of fetched scene c ≡ turn_of no_files scene c
 same_turn scene (commands.Load name form file) fetched h = absurd (false≢true (sym h))
 same_turn scene (commands.Save name form file) fetched h = absurd (false≢true (sym h))
 same_turn scene c fetched h = refl
 
+pub same_work : (scene : Scene) (c : Command) (fetched : Fetches) → names_file c ≡ false → command_work fetched scene c ≡ command_work no_files scene c
+same_work scene (commands.Load name form file) fetched h = absurd (false≢true (sym h))
+same_work scene (commands.Save name form file) fetched h = absurd (false≢true (sym h))
+same_work scene c fetched h = refl
+
 -- ---- turns of requests
 
--- a request that fetches no file has its one turn
-pub one_turn : (files : Option Files) (request : Request) (turn : Turn) → request.fetches ≡ false → ((fetched : Fetches) → request.turns fetched ≡ turn) → IsTurnOf files request turn
-one_turn None request turn e h = subst (λ (b : Bool). IsTurnBy b request.turns turn) (sym e) h
-one_turn (Some files) request turn e h = h (fetched_from files)
+-- what is so whatever fetches give is so by what they gave
+so_by : (b : Bool) (is_so : Fetches → Type 0) → ((fetched : Fetches) → is_so fetched) → IsSoBy b is_so
+so_by true is_so h = (None, h (λ _. None))
+so_by false is_so h = h
 
--- a request that fetches a file has its turn by what that fetch gave
-pub fetched_turn : (files : Option Files) (request : Request) (file : List ℕ) (turns : Option (List ℕ) → Turn) (got : Option (List ℕ)) → request.fetches ≡ true → ((fetched : Fetches) → request.turns fetched ≡ turns (fetched file)) → HasFile files file got
-    → IsTurnOf files request (turns got)
-fetched_turn None request file turns got e h has = subst (λ (b : Bool). IsTurnBy b request.turns (turns got)) (sym e) (got, h (λ _. got))
-fetched_turn (Some files) request file turns got e h has = h (fetched_from files) ∙ ap turns has
+pub so_always : (files : Option Files) (request : Request) (is_so : Fetches → Type 0) → ((fetched : Fetches) → is_so fetched) → IsSoOver files request is_so
+so_always None request is_so h = so_by request.fetches is_so h
+so_always (Some files) request is_so h = h (fetched_from files)
+
+-- and so is what follows from it
+more_by : (b : Bool) (is_so follows : Fetches → Type 0) → ((fetched : Fetches) → is_so fetched → follows fetched) → IsSoBy b is_so → IsSoBy b follows
+more_by true is_so follows f h = (h.0, f (λ _. h.0) h.1)
+more_by false is_so follows f h = λ fetched. f fetched (h fetched)
+
+pub so_more : (files : Option Files) (request : Request) (is_so follows : Fetches → Type 0) → ((fetched : Fetches) → is_so fetched → follows fetched) → IsSoOver files request is_so → IsSoOver files request follows
+so_more None request is_so follows f h = more_by request.fetches is_so follows f h
+so_more (Some files) request is_so follows f h = f (fetched_from files) h
+
+-- a request with one turn, whatever fetches give
+pub one_turn : (old new : Around) (request : Request) (turn : Turn) → ((fetched : Fetches) → request.turns fetched ≡ turn) → ((fetched : Fetches) → new.steps ≤ old.steps + request.works fetched) → IsTurnOf old new request turn
+one_turn old new request turn t w = so_always old.files request (IsTurnWith request turn old.steps new.steps) (λ fetched. (t fetched, w fetched))
+
+-- a request that fetches a file has its turn and its work by what that fetch gave
+pub fetched_turn : (old new : Around) (request : Request) (file : List ℕ) (turns : Option (List ℕ) → Turn) (works : Option (List ℕ) → ℕ) (got : Option (List ℕ)) → request.fetches ≡ true
+    → ((fetched : Fetches) → request.turns fetched ≡ turns (fetched file)) → ((got : Option (List ℕ)) (fetched : Fetches) → fetched file ≡ got → request.works fetched ≡ works got)
+    → HasFile old.files file got → new.steps ≤ old.steps + works got → IsTurnOf old new request (turns got)
+fetched_turn old new request file turns works got e t w has few = by_files old.files has
+  where
+    with : (fetched : Fetches) → fetched file ≡ got → IsTurnWith request (turns got) old.steps new.steps fetched
+    with fetched same = (t fetched ∙ ap turns same, subst (λ (n : ℕ). new.steps ≤ old.steps + n) (sym (w got fetched same)) few)
+
+    by_files : (files : Option Files) → HasFile files file got → IsSoOver files request (IsTurnWith request (turns got) old.steps new.steps)
+    by_files None h = subst (λ (b : Bool). IsSoBy b (IsTurnWith request (turns got) old.steps new.steps)) (sym e) (got, with (λ _. got) refl)
+    by_files (Some files) h = with (fetched_from files) h
 
 -- ---- what is left
 
@@ -166,59 +192,62 @@ placed_files None new name bytes h = subst (λ (o : Option Files). AreFiles o (w
 placed_files (Some files) None name bytes h = absurd h
 placed_files (Some files) (Some now) name bytes h = h
 
-same_files : (files : Option Files) → KeepsFiles files files
-same_files None = refl
-same_files (Some files) = refl
+same_files : (old new : Option Files) → new ≡ old → KeepsFiles old new
+same_files None new e = e
+same_files (Some files) new e = subst (KeepsFiles (Some files)) (sym e) refl
 
 -- a refusal of a turn that does not speak of the shelf
-quiet_cause : (refusal : Refusal) (scene : Scene) (old new : ShelfView) (request : Request) (turn : Turn) → IsTurnOf old.files request turn → tells_shelf turn.reply ≡ false → new.faults ≡ old.faults → new.misses ≡ old.misses → IsRefusalOf refusal scene turn
+quiet_cause : (refusal : Refusal) (scene : Scene) (old new : Around) (request : Request) (turn : Turn) → IsTurnOf old new request turn → tells_shelf turn.reply ≡ false → new.faults ≡ old.faults → new.misses ≡ old.misses → IsRefusalOf refusal scene turn
     → HasCause refusal scene old new request
-quiet_cause refusals.NoMemory scene old new request turn t q f m h = (omega arith, omega arith)
+quiet_cause refusals.NoMemory scene old new request turn t q f m h =
+    (omega arith, omega arith, so_more old.files request (IsTurnWith request turn old.steps new.steps) (λ fetched. new.steps ≤ old.steps + request.works fetched) (λ fetched both. both.1) t)
 quiet_cause refusals.Missing scene old new request turn t q f m h = absurd (false≢true (sym q ∙ ap (λ (u : Turn). tells_shelf u.reply) h))
 quiet_cause refusals.Shelf scene old new request turn t q f m h = absurd (false≢true (sym q ∙ ap (λ (u : Turn). tells_shelf u.reply) h))
-quiet_cause refusal scene old new request turn t q f m h = (subst (IsTurnOf old.files request) h t, f, m)
+quiet_cause refusal scene old new request turn t q f m h = (subst (IsTurnOf old new request) h t, f, m)
 
 -- a turn that places no file and does not speak of the shelf, whose counts and files stay
-pub carried_quiet : (r : Result (Unit {0}) Refusal) (old new : Scene) (before now : List ℕ) (shelf_old shelf_new : ShelfView) (request : Request) (turn : Turn)
-    → IsTurnOf shelf_old.files request turn → IsQuiet turn → KeepsFiles shelf_old.files shelf_new.files → shelf_new.faults ≡ shelf_old.faults → shelf_new.misses ≡ shelf_old.misses
-    → Carries r old new before now turn → CarriesOver r old new before now shelf_old shelf_new request
-carried_quiet (Ok done) old new before now shelf_old shelf_new request turn t q k f m h = record {
+pub carried_quiet : (r : Result (Unit {0}) Refusal) (old new : Scene) (before now : List ℕ) (around_old around_new : Around) (request : Request) (turn : Turn)
+    → IsTurnOf around_old around_new request turn → IsQuiet turn → KeepsFiles around_old.files around_new.files → around_new.faults ≡ around_old.faults → around_new.misses ≡ around_old.misses
+    → Carries r old new before now turn → CarriesOver r old new before now around_old around_new request
+carried_quiet (Ok done) old new before now around_old around_new request turn t q k f m h = record {
   turn = turn;
   made = t;
   text = h.0;
   fine = h.2;
   scene = h.1;
-  told = kept_told shelf_old.files shelf_new.files k;
-  files = kept_files shelf_old.files shelf_new.files turn.placed k q.placed;
+  told = kept_told around_old.files around_new.files k;
+  files = kept_files around_old.files around_new.files turn.placed k q.placed;
   faults = f;
   misses = m;
 }
-carried_quiet (Err refusal) old new before now shelf_old shelf_new request turn t q k f m h = record {
-  cause = quiet_cause refusal old shelf_old shelf_new request turn t q.reply f m h.0;
+carried_quiet (Err refusal) old new before now around_old around_new request turn t q k f m h = record {
+  cause = quiet_cause refusal old around_old around_new request turn t q.reply f m h.0;
   text = h.1;
   scene = h.2;
   files = k;
 }
 
 -- a request that does not touch the shelf
-pub carried_alone : (r : Result (Unit {0}) Refusal) (old new : Scene) (before now : List ℕ) (shelf : ShelfView) (request : Request) (turn : Turn)
-    → request.fetches ≡ false → ((fetched : Fetches) → request.turns fetched ≡ turn) → IsQuiet turn
-    → Carries r old new before now turn → CarriesOver r old new before now shelf shelf request
-carried_alone r old new before now shelf request turn e t q h =
-    carried_quiet r old new before now shelf shelf request turn (one_turn shelf.files request turn e t) q (same_files shelf.files) refl refl h
+pub carried_alone : (r : Result (Unit {0}) Refusal) (old new : Scene) (before now : List ℕ) (around_old around_new : Around) (request : Request) (turn : Turn)
+    → around_new.files ≡ around_old.files → around_new.faults ≡ around_old.faults → around_new.misses ≡ around_old.misses
+    → ((fetched : Fetches) → request.turns fetched ≡ turn) → ((fetched : Fetches) → around_new.steps ≤ around_old.steps + request.works fetched) → IsQuiet turn
+    → Carries r old new before now turn → CarriesOver r old new before now around_old around_new request
+carried_alone r old new before now around_old around_new request turn same f m t w q h =
+    carried_quiet r old new before now around_old around_new request turn (one_turn around_old around_new request turn t w) q (same_files around_old.files around_new.files same) f m h
 
 -- a command that names no file
-pub carried_command : (r : Result (Unit {0}) Refusal) (old new : Scene) (before now : List ℕ) (shelf : ShelfView) (c : Command) → names_file c ≡ false
-    → Carries r old new before now (turn_of no_files old c) → CarriesOver r old new before now shelf shelf (request_of old c)
-carried_command r old new before now shelf c n h =
-    carried_alone r old new before now shelf (request_of old c) (turn_of no_files old c) (fetches_none old c n) (λ fetched. same_turn old c fetched n)
-    (quiet_command old c n) h
+pub carried_command : (r : Result (Unit {0}) Refusal) (old new : Scene) (before now : List ℕ) (around_old around_new : Around) (c : Command)
+    → around_new.files ≡ around_old.files → around_new.faults ≡ around_old.faults → around_new.misses ≡ around_old.misses → names_file c ≡ false
+    → around_new.steps ≤ around_old.steps + command_work no_files old c → Carries r old new before now (turn_of no_files old c) → CarriesOver r old new before now around_old around_new (request_of old c)
+carried_command r old new before now around_old around_new c same f m n few h =
+    carried_alone r old new before now around_old around_new (request_of old c) (turn_of no_files old c) same f m (λ fetched. same_turn old c fetched n)
+    (λ fetched. subst (λ (work : ℕ). around_new.steps ≤ around_old.steps + work) (sym (same_work old c fetched n)) few) (quiet_command old c n) h
 
 -- want of memory before the shelf was asked
-pub lacking : (scene : Scene) (before now : List ℕ) (shelf : ShelfView) (request : Request) → Extends before now → CarriesOver (Err refusals.NoMemory) scene scene before now shelf shelf request
-lacking scene before now shelf request h = record {
-  cause = (omega arith, omega arith);
+pub lacking : (scene : Scene) (before now : List ℕ) (around : Around) (request : Request) → Extends before now → CarriesOver (Err refusals.NoMemory) scene scene before now around around request
+lacking scene before now around request h = record {
+  cause = (omega arith, omega arith, so_always around.files request (λ fetched. around.steps ≤ around.steps + request.works fetched) (λ fetched. omega arith));
   text = h;
   scene = refl;
-  files = same_files shelf.files;
+  files = same_files around.files around.files refl;
 }

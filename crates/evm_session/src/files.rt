@@ -1,9 +1,9 @@
 //! Files of a shelf that are put in place of the cells of an input, and solids that are placed as files.
 
-ghost use Rattle.std.specs.Prelude.{◌≡◌, ◌≤◌, true, IfOk};
+ghost use Rattle.std.specs.Prelude.{ℕ, ◌≡◌, ◌≤◌, true, IfOk};
 ghost use Rattle.evm_model.specs.Files.{bytes_in, save_fits};
 ghost use Rattle.evm_formulas.specs.Stated.{figure_of};
-ghost use Rattle.evm_session.specs.Answers.{shelf_view};
+ghost use Rattle.evm_session.specs.Answers.{around};
 ghost use Rattle.evm_session.specs.Loads.{FindsInput};
 ghost use Rattle.evm_session.specs.Requests.{request_of, CarriesOver};
 ghost use Rattle.evm_script.specs.declared.command.Command.TheVariants as commands;
@@ -19,7 +19,9 @@ use evm_outside::Shelf;
 use evm_rows::{NoMemory, Solid};
 use evm_scene::{Edit, Scene};
 use evm_script::{FileName, LoadForm, Name, SaveForm};
+use evm_steps::Steps;
 use std::alloc::Global;
+use std::sync::ledger::Ledger;
 
 /// The dimension of the input that a file is to be loaded into, or the first cause why nothing can be loaded, whatever the file:
 /// `Name`, `Kind`, `Dim` or `Range`. Takes no memory.
@@ -44,8 +46,8 @@ fn find_input<M: Meter>(scene: &Scene<M>, name: &Name, form: &LoadForm) -> Resul
 ///
 /// Without a refusal before the file is fetched, it is `Missing` or `Shelf` where none was fetched, `Form` where its bytes state
 /// no solid of the input's dimension, and `Range` where a formula would move a cell out of the limits. Takes memory for the bytes
-/// and for what they state.
-pub fn load<M: Meter, S: Shelf>(
+/// and for what they state. Counts the steps of the edit.
+pub fn load<M: Meter, S: Shelf, L: Ledger>(
     scene: &mut Scene<M>,
     alloc: Global,
     name: Name,
@@ -53,17 +55,18 @@ pub fn load<M: Meter, S: Shelf>(
     file: &FileName,
     shelf: &mut S,
     out: &mut Vec<u8>,
+    steps: &mut Steps<L>,
 ) -> Result<(), Refusal>
     ensures { CarriesOver result scene.old scene.new out.old.items out.new.items
-        (shelf_view (S.files shelf.old) (S.faults shelf.old) (S.misses shelf.old))
-        (shelf_view (S.files shelf.new) (S.faults shelf.new) (S.misses shelf.new))
+        (around (S.files shelf.old) (S.faults shelf.old) (S.misses shelf.old) steps.old)
+        (around (S.files shelf.new) (S.faults shelf.new) (S.misses shelf.new) steps.new)
         (request_of scene.old (commands.Load name form.now file.now)) }
 {
     let dim = find_input(scene, &name, form)?;
     reserve_number(out)?;
     let bytes = shelf.fetch(alloc, file.bytes())?;
     let solid = read_form(alloc, form, dim, bytes.as_slice())?;
-    edit(scene, alloc, Edit::Replace { name, solid }, out)
+    edit(scene, alloc, Edit::Replace { name, solid }, out, steps)
 }
 
 /// Whether solids of a dimension are saved in a form. Takes no memory.
@@ -104,9 +107,10 @@ pub fn save<M: Meter, S: Shelf>(
     shelf: &mut S,
     out: &mut Vec<u8>,
 ) -> Result<(), Refusal>
-    ensures { CarriesOver result scene.now scene.now out.old.items out.new.items
-        (shelf_view (S.files shelf.old) (S.faults shelf.old) (S.misses shelf.old))
-        (shelf_view (S.files shelf.new) (S.faults shelf.new) (S.misses shelf.new))
+    // It takes no step.
+    ensures { (steps : ℕ) → CarriesOver result scene.now scene.now out.old.items out.new.items
+        (around (S.files shelf.old) (S.faults shelf.old) (S.misses shelf.old) steps)
+        (around (S.files shelf.new) (S.faults shelf.new) (S.misses shelf.new) steps)
         (request_of scene.now (commands.Save name.now form.now file.now)) }
 {
     scene.facts();

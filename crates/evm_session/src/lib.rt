@@ -23,10 +23,11 @@
 
 ghost use Rattle.std.specs.Prelude.{◌≡◌, map, IfOk};
 ghost use Rattle.evm_model.specs.Scene.{start_with};
-ghost use Rattle.evm_session.specs.Answers.{Answers, shelf_view};
+ghost use Rattle.evm_session.specs.Answers.{Answers, around};
 
 use std::alloc::Global;
 use std::marker::Model;
+use std::sync::ledger::Ledger;
 
 mod answers;
 mod cells;
@@ -47,6 +48,7 @@ use evm_meter::Meter;
 use evm_outside::Shelf;
 pub use evm_rows::NoMemory;
 use evm_scene::Scene;
+use evm_steps::Steps;
 
 /// The names that the lines so far have made, with their solids. Contracts see a scene.
 #[derive(Drop)]
@@ -81,18 +83,22 @@ impl<M: Meter> Session<M> {
     /// or is refused by its first cause has the reply `no CODE` and leaves session and files. `no shelf` comes only where the line
     /// asks the shelf and the shelf's count of faults rose, and `no missing` only where its count of misses rose; else the counts
     /// stay. The one error is want of memory: after it the session, told files and `out` are as before, and no count is lower.
-    pub fn answer<S: Shelf>(
+    ///
+    /// `steps` counts the combinations of two sections that the line takes for formulas: at most the model's work of the line, whatever
+    /// is answered. A question takes none of these; a load takes those of the edit that puts the figure of its file there.
+    pub fn answer<S: Shelf, L: Ledger>(
         &mut self,
         alloc: Global,
         line: &[u8],
         shelf: &mut S,
         out: &mut Vec<u8>,
+        steps: &mut Steps<L>,
     ) -> Result<bool, NoMemory>
         ensures { Answers result line.now self.old self.new out.old.items out.new.items
-            (shelf_view (S.files shelf.old) (S.faults shelf.old) (S.misses shelf.old))
-            (shelf_view (S.files shelf.new) (S.faults shelf.new) (S.misses shelf.new)) }
+            (around (S.files shelf.old) (S.faults shelf.old) (S.misses shelf.old) steps.old)
+            (around (S.files shelf.new) (S.faults shelf.new) (S.misses shelf.new) steps.new) }
     {
-        answer(&mut self.scene, alloc, line, shelf, out)
+        answer(&mut self.scene, steps, line, alloc, shelf, out)
     }
 }
 

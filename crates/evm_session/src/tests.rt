@@ -1,14 +1,17 @@
 //! Sessions, asked by each command and refused by each code, with replies worked out by hand.
 
-ghost use Rattle.std.specs.Prelude.{◌≡◌, ℕ, None, Some, IfOk};
+ghost use Rattle.std.specs.Prelude.{◌≡◌, ◌<◌, ℕ, None, Some, IfOk};
 ghost use Rattle.std.specs.List.{slice_get};
 ghost use Rattle.evm_meter.specs.declared.stock.StockMeter.{StockMeter};
 
-use super::Session;
+use super::{NoMemory, Session};
 use evm_meter::StockMeter;
 use evm_outside::MemShelf;
+use evm_steps::Steps;
 use std::alloc::{AllocError, Global};
+use std::marker::Brand;
 use std::process::Abort;
+use std::sync::ledger::{Blank, Ledger};
 use std::test::Fail;
 
 /// Lines and their replies, in order, as in each table here: boxes of two dimensions, 2 by 3 at the origin, then 2 by 2 from (1, 1).
@@ -254,6 +257,34 @@ fn meters(alloc: Global) -> Result<Vec<StockMeter>, AllocError>
     Ok(meters)
 }
 
+/// Answers a line, with its steps counted by a new counter.
+fn counted<L: Ledger>(
+    session: &mut Session<StockMeter>,
+    blank: Blank,
+    alloc: Global,
+    line: &[u8],
+    shelf: &mut MemShelf,
+    out: &mut Vec<u8>,
+) -> Result<bool, NoMemory>
+    requires name { blank.name ≡ L.name }
+    requires parts { blank.parts ≡ L.parts }
+    requires some { 0 < L.parts }
+{
+    let mut steps: Steps<L> = Steps::start(blank);
+    session.answer(alloc, line, shelf, out, &mut steps)
+}
+
+/// Answers a line.
+fn asked(
+    session: &mut Session<StockMeter>,
+    alloc: Global,
+    line: &[u8],
+    shelf: &mut MemShelf,
+    out: &mut Vec<u8>,
+) -> Result<bool, NoMemory> {
+    counted::<Brand>(session, Blank::new(1), alloc, line, shelf, out)
+}
+
 /// Asks a new session, over a shelf whose first call fails.
 fn answers(rt: &(impl Abort + AllocGlobal), answered: &[(&str, &str)]) -> Result<(), Fail> {
     let mut session = Session::new(rt.alloc(), meters(rt.alloc())?)?;
@@ -261,7 +292,13 @@ fn answers(rt: &(impl Abort + AllocGlobal), answered: &[(&str, &str)]) -> Result
     let mut out = Vec::new(rt.alloc());
     for (line, reply) in answered {
         out.clear();
-        let fine = session.answer(rt.alloc(), line.as_bytes(), &mut shelf, &mut out)?;
+        let fine = asked(
+            &mut session,
+            rt.alloc(),
+            line.as_bytes(),
+            &mut shelf,
+            &mut out,
+        )?;
         assert_eq!(rt; out.as_slice(), reply.as_bytes(), "{line}");
         assert_eq!(rt; fine, !reply.starts_with("no"), "{line}");
     }
@@ -308,7 +345,13 @@ fn a_line_may_be_too_long(rt: HostRuntime) -> Result<(), Fail> {
     let mut shelf = MemShelf::new(rt.alloc(), Vec::new(rt.alloc()));
     let mut out = Vec::new(rt.alloc());
     let long = vec![in rt.alloc(); b' '; 4097]?;
-    let fine = session.answer(rt.alloc(), long.as_slice(), &mut shelf, &mut out)?;
+    let fine = asked(
+        &mut session,
+        rt.alloc(),
+        long.as_slice(),
+        &mut shelf,
+        &mut out,
+    )?;
     assert_eq!(rt; out.as_slice(), b"no line\n".as_slice());
     assert_eq!(rt; fine, false);
     Ok(())

@@ -4,7 +4,7 @@ use Rattle.std.proofs.lemmas.List.{take_at, length-append}
 use Rattle.evm_cells.specs.Localities.{Measure}
 use Rattle.evm_model.specs.Scene.{start_with}
 use Rattle.evm_model.specs.Runs.{run, texts}
-use Rattle.evm_session.specs.Answers.{ShelfView}
+use Rattle.evm_session.specs.Answers.{Around}
 use Rattle.evm_text.specs.Lines.{lines}
 use Rattle.evm_tool.specs.EndedLines.{ended_lines}
 use Rattle.evm_tool.specs.Script.{Answered, StopsIn}
@@ -17,15 +17,15 @@ use Rattle.evm_tool.specs.declared.top.Status.{Status}
 use Rattle.evm_tool.specs.declared.top.Status.TheVariants.{Done, Refused, Words, ReadFault, WriteFault, NoMemory, TooLong}
 use Rattle.evm_tool.proofs.Served.{progress_start, served_progress, answers_of, CutsAt, progress_cut}
 
-all_served : (kinds : List Measure) (ls : List (List ℕ)) (some : Bool) (s t : State) → s.scene ≡ start_with kinds → Served ls some s t → Progress kinds ls [] t.scene s.written t.written some s.shelf t.shelf
-all_served kinds ls some s t e v = served_progress kinds [] ls false some s t s.written s.shelf (progress_start kinds [] s.scene s.written s.shelf e) v
+all_served : (kinds : List Measure) (ls : List (List ℕ)) (some : Bool) (s t : State) → s.scene ≡ start_with kinds → Served ls some s t → Progress kinds ls [] t.scene s.written t.written some s.around t.around
+all_served kinds ls some s t e v = served_progress kinds [] ls false some s t s.written s.around (progress_start kinds [] s.scene s.written s.around e) v
 
 front_of : (ls later : List (List ℕ)) (line : List ℕ) (count : ℕ) → count ≡ length ls → ls ++ line ∷ [] ≡ take (count + 1) (ls ++ line ∷ later)
 front_of ls later line count e =
     sym (ap (take (count + 1)) (sym (append_assoc ls (line ∷ []) later)) ∙ take_at (ls ++ line ∷ []) later (count + 1) (omega (arith, length-append ls (line ∷ []), e)))
 
 stops_at : (kinds : List Measure) (left_now : Option (List ℕ)) (taken : List ℕ) (s t : State) (w : StopsIn left_now taken s t)
-    → (cut : CutsAt kinds (lines taken) (length w.ls) s.written t.written s.shelf t.shelf) → StopsAt kinds left_now taken cut.gained s.shelf t.shelf
+    → (cut : CutsAt kinds (lines taken) (length w.ls) s.written t.written s.around t.around) → StopsAt kinds left_now taken cut.gained s.around t.around
 stops_at kinds left_now taken s t w cut = record {
   begins = cut.begins;
   upto = w.upto;
@@ -36,24 +36,24 @@ stops_at kinds left_now taken s t w cut = record {
   near = w.near;
 }
 
-pub runs_of : (kinds : List Measure) (status : Status) (left left_now : Option (List ℕ)) (s t : State) → s.scene ≡ start_with kinds → Answered status left left_now s t → Runs kinds status left left_now s.written t.written s.shelf t.shelf
+pub runs_of : (kinds : List Measure) (status : Status) (left left_now : Option (List ℕ)) (s t : State) → s.scene ≡ start_with kinds → Answered status left left_now s t → Runs kinds status left left_now s.written t.written s.around t.around
 runs_of kinds Done left left_now s t e v =
     let p = all_served kinds (lines v.0) false s t e v.2 in
     record {
       taken = v.0;
       takes = v.1;
-      gained = texts (run (first_world kinds s.shelf) (lines v.0) p.marks);
+      gained = texts (run (first_world kinds s.around) (lines v.0) p.marks);
       appended = p.text;
-      writes = answers_of kinds (lines v.0) t.scene s.written t.written false s.shelf t.shelf p;
+      writes = answers_of kinds (lines v.0) t.scene s.written t.written false s.around t.around p;
     }
 runs_of kinds Refused left left_now s t e v =
     let p = all_served kinds (lines v.0) true s t e v.2 in
     record {
       taken = v.0;
       takes = v.1;
-      gained = texts (run (first_world kinds s.shelf) (lines v.0) p.marks);
+      gained = texts (run (first_world kinds s.around) (lines v.0) p.marks);
       appended = p.text;
-      writes = answers_of kinds (lines v.0) t.scene s.written t.written true s.shelf t.shelf p;
+      writes = answers_of kinds (lines v.0) t.scene s.written t.written true s.around t.around p;
     }
 runs_of kinds Words left left_now s t e v = absurd v
 runs_of kinds ReadFault left left_now s t e v =
@@ -63,15 +63,15 @@ runs_of kinds ReadFault left left_now s t e v =
     record {
       taken = v.0;
       takes = (v.1, v.2);
-      gained = texts (run (first_world kinds s.shelf) ls p.marks);
+      gained = texts (run (first_world kinds s.around) ls p.marks);
       appended = p.text;
-      writes = (some, answers_of kinds ls t.scene s.written t.written some s.shelf t.shelf p);
+      writes = (some, answers_of kinds ls t.scene s.written t.written some s.around t.around p);
     }
 runs_of kinds WriteFault left left_now s t e v =
     let w = v.3 in
     let p = all_served kinds w.ls w.some s w.between e w.served in
-    let cut = subst (λ (all : List (List ℕ)). CutsAt kinds all (length w.ls) s.written t.written s.shelf t.shelf) (sym w.here)
-    (progress_cut kinds w.ls w.line w.later w.between.scene t.scene s.written w.between.written t.written w.some w.failed s.shelf w.between.shelf t.shelf p w.last) in
+    let cut = subst (λ (all : List (List ℕ)). CutsAt kinds all (length w.ls) s.written t.written s.around t.around) (sym w.here)
+    (progress_cut kinds w.ls w.line w.later w.between.scene t.scene s.written w.between.written t.written w.some w.failed s.around w.between.around t.around p w.last) in
     record { taken = v.0; takes = (v.1, v.2); gained = cut.gained; appended = cut.appended; writes = stops_at kinds left_now v.0 s t w cut }
 runs_of kinds NoMemory left left_now s t e v = absurd v
 runs_of kinds TooLong left left_now s t e v =
@@ -81,9 +81,9 @@ runs_of kinds TooLong left left_now s t e v =
     record {
       taken = v.0;
       takes = (v.1, v.2);
-      gained = texts (run (first_world kinds s.shelf) ls p.marks);
+      gained = texts (run (first_world kinds s.around) ls p.marks);
       appended = p.text;
-      writes = (some, answers_of kinds ls t.scene s.written t.written some s.shelf t.shelf p);
+      writes = (some, answers_of kinds ls t.scene s.written t.written some s.around t.around p);
     }
 
 -- a script that is not too long was answered where no device failed
@@ -116,10 +116,10 @@ completes_not status asked None left_now written written_now r q w v h = tt
 completes_not status asked (Some script) left_now written written_now r q w v h = λ run. absurd (h run)
 
 -- what words ask for
-pub does_run : (kinds : List Measure) (asked : Option Form) (status : Status) (left left_now written written_now : Option (List ℕ)) (shelf shelf_now : ShelfView) → asked ≡ Some Run → Runs kinds status left left_now written written_now shelf shelf_now
-    → Does asked kinds status left left_now written written_now shelf shelf_now
-does_run kinds asked status left left_now written written_now shelf shelf_now e h = subst (λ (o : Option Form). Does o kinds status left left_now written written_now shelf shelf_now) (sym e) h
+pub does_run : (kinds : List Measure) (asked : Option Form) (status : Status) (left left_now written written_now : Option (List ℕ)) (around around_now : Around) → asked ≡ Some Run → Runs kinds status left left_now written written_now around around_now
+    → Does asked kinds status left left_now written written_now around around_now
+does_run kinds asked status left left_now written written_now around around_now e h = subst (λ (o : Option Form). Does o kinds status left left_now written written_now around around_now) (sym e) h
 
-pub does_gen : (kinds : List Measure) (asked : Option Form) (seed edits : ℕ) (status : Status) (left left_now written written_now : Option (List ℕ)) (shelf shelf_now : ShelfView) → asked ≡ Some (Gen seed edits) → Makes status seed edits left left_now written written_now shelf shelf_now
-    → Does asked kinds status left left_now written written_now shelf shelf_now
-does_gen kinds asked seed edits status left left_now written written_now shelf shelf_now e h = subst (λ (o : Option Form). Does o kinds status left left_now written written_now shelf shelf_now) (sym e) h
+pub does_gen : (kinds : List Measure) (asked : Option Form) (seed edits : ℕ) (status : Status) (left left_now written written_now : Option (List ℕ)) (around around_now : Around) → asked ≡ Some (Gen seed edits) → Makes status seed edits left left_now written written_now around around_now
+    → Does asked kinds status left left_now written written_now around around_now
+does_gen kinds asked seed edits status left left_now written written_now around around_now e h = subst (λ (o : Option Form). Does o kinds status left left_now written written_now around around_now) (sym e) h

@@ -1,5 +1,5 @@
 -- Lines that were served one after another, and lines that are too long to tell apart.
-use Rattle.std.proofs.Common.{◌≡◌, ℕ, ◌-◌, ◌<◌, ◌≤◌, Bool, true, false, not, ◌&&◌, ◌||◌, nat_eq, if◌then◌else◌, List, [], ◌∷◌, ◌++◌, length, take, slice_index, refl, sym, ◌∙◌, ap, subst, arith, Result, Ok, Err, inl, inr, lt-ltb}
+use Rattle.std.proofs.Common.{◌≡◌, ℕ, ◌-◌, ◌<◌, ◌≤◌, Bool, true, false, not, ◌&&◌, ◌||◌, nat_eq, if◌then◌else◌, List, [], ◌∷◌, ◌++◌, length, take, slice_index, refl, sym, ◌∙◌, ap, subst, arith, is_some, Result, Ok, Err, inl, inr, lt-ltb}
 use Rattle.std.proofs.Math.Bool.{or_assoc}
 use Rattle.std.proofs.lemmas.List.{length-append, length-take, append-nil}
 use Rattle.evm_outside.specs.declared.Failed.{Failed}
@@ -15,6 +15,7 @@ use Rattle.evm_text.specs.Lines.{without_cr, last_line}
 use Rattle.evm_text.specs.Words.{words}
 use Rattle.evm_tool.specs.Served.{State, ServesFrom, Served, Sends, FaultsOver, MissesOver, KeepsOf}
 use Rattle.evm_tool.specs.Streams.{line_kept}
+use Rattle.evm_tool.proofs.LineSteps.{adds_same}
 use Rattle.evm_tool.proofs.Served.{or_false}
 
 -- ---- one after another
@@ -70,7 +71,7 @@ may_same told w l k (Fetched got) e = ap (λ (c : Result Command LineError). not
 -- so they are served the same
 pub serves_same : (r : Result Bool Failed) (l k : List ℕ) (s t : State) → command l ≡ command k → ServesFrom r l s t → ServesFrom r k s t
 serves_same r l k s t e v =
-    let here = world_of s.scene s.shelf.files in
+    let here = world_of s.scene s.around.files in
     let same = answer_same here l k v.mark e in
     record {
       mark = v.mark;
@@ -78,9 +79,10 @@ serves_same r l k s t e v =
       scene = v.scene ∙ ap (λ (a : Answer). a.world.scene) same;
       sent = subst (λ (a : Answer). Sends r s.written t.written a.reply) same v.sent;
       told = v.told;
-      files = subst (λ (a : Answer). AreFiles t.shelf.files a.world.files) same v.files;
-      faults = subst (λ (a : Answer). FaultsOver a.reply s.shelf.faults t.shelf.faults) same v.faults;
-      misses = subst (λ (a : Answer). MissesOver a.reply s.shelf.misses t.shelf.misses) same v.misses;
+      files = subst (λ (a : Answer). AreFiles t.around.files a.world.files) same v.files;
+      faults = subst (λ (a : Answer). FaultsOver a.reply s.around.faults t.around.faults) same v.faults;
+      misses = subst (λ (a : Answer). MissesOver a.reply s.around.misses t.around.misses) same v.misses;
+      steps = adds_same (is_some s.around.files) here l k v.mark s.around.steps t.around.steps e v.steps;
     }
 
 -- what is kept of a line goes on to a line with its command

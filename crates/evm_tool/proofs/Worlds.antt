@@ -34,7 +34,7 @@ pub record IsOf (told : Option Files) (seen : Scene) (world : World) : Type 0 wh
   pub scene : seen ≡ world.scene
   pub files : AreFiles told world.files
 
-told_world : (files : Files) (scene : Scene) (w : World) → IsOf (Some files) scene w → world_of scene (Some files) ≡ w
+pub told_world : (files : Files) (scene : Scene) (w : World) → IsOf (Some files) scene w → world_of scene (Some files) ≡ w
 told_world files scene w b =
     ap (λ (s : Scene). record { scene = s; files = files }) b.scene ∙ ap (λ (f : Files). record { scene = w.scene; files = f }) b.files
 

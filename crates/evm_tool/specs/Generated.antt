@@ -7,6 +7,7 @@ use Rattle.evm_generator.specs.Script.{generated_lines}
 use Rattle.evm_model.specs.Scene.{Scene, start}
 use Rattle.evm_model.specs.Replies.{Reply, reply_text, is_no, line_of}
 use Rattle.evm_model.specs.Runs.{World, Mark, Plain, NoMemory, NoShelf, Fetched, answer, run, texts, some_no, world_after}
+use Rattle.evm_model.specs.LineWork.{Adds, AddsAll}
 use Rattle.evm_rows.specs.declared.solid.NoMemory.{NoMemory as Lack}
 use Rattle.evm_tool.specs.Streams.{AppendsPart}
 use Rattle.evm_tool.specs.declared.top.Status.{Status}
@@ -67,17 +68,23 @@ summary_of edits rs =
     line_of (codes "lines " ++ decimal (length rs)) ++ line_of (codes "ok " ++ decimal (fine_in rs))
     ++ line_of (codes "no " ++ decimal (refused_in rs)) ++ texts (drop (edits + 8) rs)
 
--- with a mark of its own, a line has this reply, and the scene is that after it
-pub record Replies (line : List ℕ) (old new : Scene) (text : List ℕ) (fine : Bool) : Type 0 where
+-- what the lines of a generated script add to a count of steps, as far as there are marks
+abbrev pub AddsGenerated : ℕ → ℕ → List Mark → ℕ → ℕ → Type 0
+AddsGenerated seed edits marks before now = AddsAll true (own_world start) (generated_lines seed edits) marks before now
+
+-- with a mark of its own, a line has this reply, the scene is that after it, and at most its work was added to the steps
+pub record Replies (line : List ℕ) (old new : Scene) (text : List ℕ) (fine : Bool) (before now : ℕ) : Type 0 where
   pub mark : Mark
   pub own : is_own mark ≡ true
   pub sent : text ≡ reply_text (answer (own_world old) line mark).reply
   pub kind : fine ≡ not (is_no (answer (own_world old) line mark).reply)
   pub world : own_world new ≡ (answer (own_world old) line mark).world
+  pub steps : Adds true (own_world old) line mark before now
 
-abbrev pub RepliesTo : Result Bool Lack → List ℕ → Scene → Scene → List ℕ → Type 0
-RepliesTo (Ok fine) line old new text = Replies line old new text fine
-RepliesTo (Err lack) line old new text = Unit {0}
+-- the line was answered; or there was no memory for the reply that says that memory was missing
+abbrev pub RepliesTo : Result Bool Lack → List ℕ → Scene → Scene → List ℕ → ℕ → ℕ → Type 0
+RepliesTo (Ok fine) line old new text before now = Replies line old new text fine before now
+RepliesTo (Err lack) line old new text before now = Adds true (own_world old) line NoMemory before now
 
 -- one reply was counted, and kept where as many as are passed over came before
 pub record IsCounted (fine : Bool) (reply : List ℕ)
@@ -88,7 +95,7 @@ pub record IsCounted (fine : Bool) (reply : List ℕ)
 
 -- the first lines of a script were answered, and these are left
 pub record SoFar (seed edits : ℕ) (left : List (List ℕ)) (scene : Scene)
-    (fine refused : ℕ) (last : List ℕ) : Type 0 where
+    (fine refused : ℕ) (last : List ℕ) (before now : ℕ) : Type 0 where
   pub marks : List Mark
   pub here : drop (length marks) (generated_lines seed edits) ≡ left
   pub most : length marks ≤ length (generated_lines seed edits)
@@ -99,9 +106,10 @@ pub record SoFar (seed edits : ℕ) (left : List (List ℕ)) (scene : Scene)
   pub fines : fine ≡ fine_in (replies_of seed edits marks)
   pub refusals : refused ≡ refused_in (replies_of seed edits marks)
   pub kept : last ≡ texts (drop (edits + 8) (replies_of seed edits marks))
+  pub steps : AddsGenerated seed edits marks before now
 
 -- all lines were answered, with one mark each
-pub record Sums (seed edits fine refused : ℕ) (last : List ℕ) : Type 0 where
+pub record Sums (seed edits fine refused : ℕ) (last : List ℕ) (before now : ℕ) : Type 0 where
   pub marks : List Mark
   pub each : length marks ≡ edits + 14
   pub own : list_all is_own marks ≡ true
@@ -111,11 +119,18 @@ pub record Sums (seed edits fine refused : ℕ) (last : List ℕ) : Type 0 where
   pub lines : length (replies_of seed edits marks) ≡ edits + 14
   pub all : fine_in (replies_of seed edits marks)
       + refused_in (replies_of seed edits marks) ≡ edits + 14
+  pub steps : AddsGenerated seed edits marks before now
+
+-- for want of memory no summary was made: of some of the first lines each added at most its work to the steps
+pub record StopsEarly (seed edits before now : ℕ) : Type 0 where
+  pub marks : List Mark
+  pub own : list_all is_own marks ≡ true
+  pub steps : AddsGenerated seed edits marks before now
 
 -- with one mark for each line, some reply refuses or none does, and this is so of the summary. There is a reply to each line. Some
 -- reply refuses exactly where memory was missing at some line; and where it was there at the eight lines before the edits, just the
--- lines are refused at which it was missing
-pub record Summed (seed edits : ℕ) (some : Bool) (IsWritten : List ℕ → Type 0) : Type 0 where
+-- lines are refused at which it was missing. Each line added at most its work to the steps
+pub record Summed (seed edits : ℕ) (some : Bool) (IsWritten : List ℕ → Type 0) (before now : ℕ) : Type 0 where
   pub marks : List Mark
   pub each : length marks ≡ edits + 14
   pub own : list_all is_own marks ≡ true
@@ -127,14 +142,19 @@ pub record Summed (seed edits : ℕ) (some : Bool) (IsWritten : List ℕ → Typ
   pub just : list_any lacks_memory (take 8 marks) ≡ false
       → map is_no (replies_of seed edits marks) ≡ map lacks_memory marks
   pub written : IsWritten (summary_of edits (replies_of seed edits marks))
+  pub steps : AddsGenerated seed edits marks before now
 
--- what is written of a generated script: the summary, a front of it and not all where the sink failed, or nothing for want of memory
-abbrev pub Generates : Status → ℕ → ℕ → Option (List ℕ) → Option (List ℕ) → Type 0
-Generates ends.Done seed edits before now = Summed seed edits false (λ text. Appends before now text)
-Generates ends.Refused seed edits before now = Summed seed edits true (λ text. Appends before now text)
-Generates ends.Words seed edits before now = ⊥
-Generates ends.ReadFault seed edits before now = ⊥
-Generates ends.WriteFault seed edits before now =
-    (some : Bool) × Summed seed edits some (λ text. AppendsPart before now text)
-Generates ends.NoMemory seed edits before now = Appends before now []
-Generates ends.TooLong seed edits before now = ⊥
+-- what is written of a generated script: the summary, a front of it and not all where the sink failed, or nothing for want of memory;
+-- and what its lines added to the steps
+abbrev pub Generates : Status → ℕ → ℕ → Option (List ℕ) → Option (List ℕ) → ℕ → ℕ → Type 0
+Generates ends.Done seed edits written written_now before now =
+    Summed seed edits false (λ text. Appends written written_now text) before now
+Generates ends.Refused seed edits written written_now before now =
+    Summed seed edits true (λ text. Appends written written_now text) before now
+Generates ends.Words seed edits written written_now before now = ⊥
+Generates ends.ReadFault seed edits written written_now before now = ⊥
+Generates ends.WriteFault seed edits written written_now before now =
+    (some : Bool) × Summed seed edits some (λ text. AppendsPart written written_now text) before now
+Generates ends.NoMemory seed edits written written_now before now =
+    Appends written written_now [] × StopsEarly seed edits before now
+Generates ends.TooLong seed edits written written_now before now = ⊥

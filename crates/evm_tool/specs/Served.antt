@@ -8,11 +8,12 @@ use Rattle.evm_model.specs.Scene.{Scene}
 use Rattle.evm_model.specs.Edits.{Shelf, Missing, Memory}
 use Rattle.evm_model.specs.Replies.{Reply, No, reply_text, is_no}
 use Rattle.evm_model.specs.Runs.{Mark, answer, may_have, run, texts, some_no, world_after}
-use Rattle.evm_session.specs.Answers.{ShelfView, world_of, AreFiles}
+use Rattle.evm_model.specs.LineWork.{Adds}
+use Rattle.evm_session.specs.Answers.{Around, world_of, AreFiles}
 use Rattle.evm_text.specs.Lines.{text_of}
 use Rattle.evm_tool.specs.EndedLines.{HasNoLf, IsCut}
 use Rattle.evm_tool.specs.Streams.{AppendsPart, line_kept}
-use Rattle.evm_tool.specs.Top.{LeavesShelf, first_world}
+use Rattle.evm_tool.specs.Top.{LeavesAround, first_world}
 
 -- the reply went out whole, or in part where the sink failed
 abbrev pub Sends : Result Bool Failed → Option (List ℕ) → Option (List ℕ) → Reply → Type 0
@@ -31,41 +32,44 @@ MissesOver (No Missing) before now = Climbed before now
 MissesOver (No Memory) before now = MayClimb before now
 MissesOver reply before now = now ≡ before
 
--- with one of the marks that a line may have, its reply went out, and the scene and the shelf are those after it
+-- with one of the marks that a line may have, its reply went out, the scene and the shelf are those after it, and at most the work of
+-- the line was added to the steps
 pub record Serves (result : Result Bool Failed) (old new : Scene)
-    (before now : Option (List ℕ)) (line : List ℕ) (shelf_old shelf_new : ShelfView) : Type 0 where
+    (before now : Option (List ℕ)) (line : List ℕ) (around_old around_new : Around) : Type 0 where
   pub mark : Mark
-  pub allowed : may_have (is_some shelf_old.files) (world_of old shelf_old.files) line mark ≡ true
-  pub scene : new ≡ (answer (world_of old shelf_old.files) line mark).world.scene
-  pub sent : Sends result before now (answer (world_of old shelf_old.files) line mark).reply
-  pub told : is_some shelf_new.files ≡ is_some shelf_old.files
-  pub files : AreFiles shelf_new.files (answer (world_of old shelf_old.files) line mark).world.files
-  pub faults : FaultsOver (answer (world_of old shelf_old.files) line mark).reply shelf_old.faults shelf_new.faults
-  pub misses : MissesOver (answer (world_of old shelf_old.files) line mark).reply shelf_old.misses shelf_new.misses
+  pub allowed : may_have (is_some around_old.files) (world_of old around_old.files) line mark ≡ true
+  pub scene : new ≡ (answer (world_of old around_old.files) line mark).world.scene
+  pub sent : Sends result before now (answer (world_of old around_old.files) line mark).reply
+  pub told : is_some around_new.files ≡ is_some around_old.files
+  pub files : AreFiles around_new.files (answer (world_of old around_old.files) line mark).world.files
+  pub faults : FaultsOver (answer (world_of old around_old.files) line mark).reply around_old.faults around_new.faults
+  pub misses : MissesOver (answer (world_of old around_old.files) line mark).reply around_old.misses around_new.misses
+  pub steps : Adds (is_some around_old.files) (world_of old around_old.files) line mark
+      around_old.steps around_new.steps
 
 -- of these lines all but the rest were answered, and some reply refused or none did
 pub record Progress (kinds : List Measure) (ls rest : List (List ℕ)) (scene : Scene)
-    (before now : Option (List ℕ)) (some : Bool) (shelf_before shelf_now : ShelfView) : Type 0 where
+    (before now : Option (List ℕ)) (some : Bool) (around_before around_now : Around) : Type 0 where
   pub marks : List Mark
   pub most : length marks ≤ length ls
   pub left : drop (length marks) ls ≡ rest
-  pub reached : scene ≡ (world_after (first_world kinds shelf_before) ls marks).scene
-  pub shelf : LeavesShelf kinds ls marks shelf_before shelf_now
-  pub text : Appends before now (texts (run (first_world kinds shelf_before) ls marks))
-  pub refused : some_no (run (first_world kinds shelf_before) ls marks) ≡ some
+  pub reached : scene ≡ (world_after (first_world kinds around_before) ls marks).scene
+  pub around : LeavesAround kinds ls marks around_before around_now
+  pub text : Appends before now (texts (run (first_world kinds around_before) ls marks))
+  pub refused : some_no (run (first_world kinds around_before) ls marks) ≡ some
 
--- what the answers change: the scene, what was written, and the shelf
+-- what the answers change: the scene, what was written, and what is around the session
 pub record State : Type 0 where
   pub scene : Scene
   pub written : Option (List ℕ)
-  pub shelf : ShelfView
+  pub around : Around
 
-abbrev pub state_of : Scene → Option (List ℕ) → ShelfView → State
-state_of scene written shelf = record { scene = scene; written = written; shelf = shelf }
+abbrev pub state_of : Scene → Option (List ℕ) → Around → State
+state_of scene written around = record { scene = scene; written = written; around = around }
 
 -- one line was served on the way from a state to another
 abbrev pub ServesFrom : Result Bool Failed → List ℕ → State → State → Type 0
-ServesFrom result line old new = Serves result old.scene new.scene old.written new.written line old.shelf new.shelf
+ServesFrom result line old new = Serves result old.scene new.scene old.written new.written line old.around new.around
 
 -- these lines were served one after another, and some reply refused or none did
 abbrev pub Served : List (List ℕ) → Bool → State → State → Type 0

@@ -9,8 +9,9 @@ use Rattle.evm_model.specs.Scene.{start_with}
 use Rattle.evm_model.specs.Edits.{Shelf, Missing, Memory}
 use Rattle.evm_model.specs.Replies.{Reply, No, reply_text}
 use Rattle.evm_model.specs.Runs.{World, Mark, answer, may_all_have, run, world_after, texts, some_no}
+use Rattle.evm_model.specs.LineWork.{AddsAll}
 use Rattle.evm_text.specs.Lines.{lines}
-use Rattle.evm_session.specs.Answers.{ShelfView, world_of, AreFiles}
+use Rattle.evm_session.specs.Answers.{Around, world_of, AreFiles}
 use Rattle.evm_words.specs.declared.form.Form.{Form}
 use Rattle.evm_words.specs.declared.form.Form.TheVariants.{Run, Gen}
 use Rattle.evm_tool.specs.EndedLines.{ended_lines}
@@ -20,8 +21,8 @@ use Rattle.evm_tool.specs.declared.top.Status.{Status}
 use Rattle.evm_tool.specs.declared.top.Status.TheVariants.{Done, Refused, Words, ReadFault, WriteFault, NoMemory, TooLong}
 
 -- the world in which a run starts: no names, free meters of these kinds, and the files that the shelf tells
-abbrev pub first_world : List Measure → ShelfView → World
-first_world kinds shelf = world_of (start_with kinds) shelf.files
+abbrev pub first_world : List Measure → Around → World
+first_world kinds around = world_of (start_with kinds) around.files
 
 -- whether a reply is `no shelf`
 abbrev pub is_no_shelf : Reply → Bool
@@ -48,30 +49,32 @@ pub record Counts (kind : Reply → Bool) (replies : List Reply) (before now : �
   pub rose : RoseBy (count_by kind replies) before now
   pub stays : list_any kind replies ≡ false → list_any is_no_memory replies ≡ false → now ≡ before
 
--- what answering these lines with these marks leaves of the shelf: the files of the run, and counts that tell of its replies
-pub record LeavesShelf (kinds : List Measure) (ls : List (List ℕ)) (marks : List Mark) (before now : ShelfView) : Type 0 where
+-- what answering these lines with these marks leaves around the session: the files of the run, counts of the shelf that tell of its
+-- replies, and at most the work of each line added to the steps
+pub record LeavesAround (kinds : List Measure) (ls : List (List ℕ)) (marks : List Mark) (before now : Around) : Type 0 where
   pub allowed : may_all_have (is_some before.files) (first_world kinds before) ls marks ≡ true
   pub told : is_some now.files ≡ is_some before.files
   pub files : AreFiles now.files (world_after (first_world kinds before) ls marks).files
   pub faults : Counts is_no_shelf (run (first_world kinds before) ls marks) before.faults now.faults
   pub misses : Counts is_no_missing (run (first_world kinds before) ls marks) before.misses now.misses
+  pub steps : AddsAll (is_some before.files) (first_world kinds before) ls marks before.steps now.steps
 
 -- all these lines were answered, with one mark each, and some reply refuses or none does
-pub record Answers (kinds : List Measure) (ls : List (List ℕ)) (gained : List ℕ) (some : Bool) (before now : ShelfView) : Type 0 where
+pub record Answers (kinds : List Measure) (ls : List (List ℕ)) (gained : List ℕ) (some : Bool) (before now : Around) : Type 0 where
   pub marks : List Mark
   pub each : length marks ≡ length ls
-  pub shelf : LeavesShelf kinds ls marks before now
+  pub around : LeavesAround kinds ls marks before now
   pub text : gained ≡ texts (run (first_world kinds before) ls marks)
   pub refused : some_no (run (first_world kinds before) ls marks) ≡ some
 
 -- some of these lines were answered whole and one more in part: a front of its reply was written, and not all of it
-pub record Begins (kinds : List Measure) (ls : List (List ℕ)) (gained : List ℕ) (before now : ShelfView) : Type 0 where
+pub record Begins (kinds : List Measure) (ls : List (List ℕ)) (gained : List ℕ) (before now : Around) : Type 0 where
   pub marks : List Mark
   pub mark : Mark
   pub line : List ℕ
   pub later : List (List ℕ)
   pub here : drop (length marks) ls ≡ line ∷ later
-  pub shelf : LeavesShelf kinds ls (marks ++ mark ∷ []) before now
+  pub around : LeavesAround kinds ls (marks ++ mark ∷ []) before now
   pub front : List ℕ
   pub rest : List ℕ
   pub more : 0 < length rest
@@ -81,7 +84,7 @@ pub record Begins (kinds : List Measure) (ls : List (List ℕ)) (gained : List �
 -- the sink failed at the reply to one of the lines, the k-th: those before it were answered whole, and of its own reply only a front
 -- was written. It was a whole line when it was answered: an LF ends it, or the input ends with it. At most one piece was taken after it
 pub record StopsAt (kinds : List Measure) (left_now : Option (List ℕ)) (taken gained : List ℕ)
-    (before now : ShelfView) : Type 0 where
+    (before now : Around) : Type 0 where
   pub begins : Begins kinds (lines taken) gained before now
   pub upto : List ℕ
   pub after : List ℕ
@@ -90,22 +93,23 @@ pub record StopsAt (kinds : List Measure) (left_now : Option (List ℕ)) (taken 
   pub ended : (ended_lines upto ≡ lines upto) ⊎ ((after ≡ []) × IsAtEnd left_now)
   pub near : length after ≤ piece_max
 
--- the shelf is as before
-abbrev pub KeepsShelf : ShelfView → ShelfView → Type 0
-KeepsShelf before now = KeepsFiles before.files now.files × (now.faults ≡ before.faults) × (now.misses ≡ before.misses)
+-- the shelf and the steps are as before
+abbrev pub KeepsAround : Around → Around → Type 0
+KeepsAround before now =
+    KeepsFiles before.files now.files × (now.faults ≡ before.faults) × (now.misses ≡ before.misses) × (now.steps ≡ before.steps)
 
--- nothing was written, and the shelf is as before
-abbrev pub DoesNothing : List ℕ → ShelfView → ShelfView → Type 0
-DoesNothing gained before now = (gained ≡ []) × KeepsShelf before now
+-- nothing was written, and the shelf and the steps are as before
+abbrev pub DoesNothing : List ℕ → Around → Around → Type 0
+DoesNothing gained before now = (gained ≡ []) × KeepsAround before now
 
 -- all these lines were answered, whether some reply refuses or not
-abbrev pub AnswersAll : List Measure → List (List ℕ) → List ℕ → ShelfView → ShelfView → Type 0
+abbrev pub AnswersAll : List Measure → List (List ℕ) → List ℕ → Around → Around → Type 0
 AnswersAll kinds ls gained before now = (some : Bool) × Answers kinds ls gained some before now
 
 -- which lines were answered and what was written, by the bytes that were taken: all lines; where the source failed, those that an LF ends;
 -- where the sink failed, those up to the one whose reply was cut; of a script that is too long, those that an LF ends among the bytes
 -- that a script may have
-abbrev pub Writes : Status → List Measure → Option (List ℕ) → List ℕ → List ℕ → ShelfView → ShelfView → Type 0
+abbrev pub Writes : Status → List Measure → Option (List ℕ) → List ℕ → List ℕ → Around → Around → Type 0
 Writes Done kinds left_now taken gained before now = Answers kinds (lines taken) gained false before now
 Writes Refused kinds left_now taken gained before now = Answers kinds (lines taken) gained true before now
 Writes Words kinds left_now taken gained before now = DoesNothing gained before now
@@ -128,14 +132,14 @@ Takes WriteFault before now taken = Consumes before now taken × (length taken �
 Takes NoMemory before now taken = Consumes before now taken × (taken ≡ [])
 Takes TooLong before now taken = Consumes before now taken × (length taken ≡ script_limit + 1)
 
--- some bytes were taken, whatever they are, and what was written and left of the shelf is what a run of these bytes writes and leaves
+-- some bytes were taken, whatever they are, and what was written and left around the session is what a run of these bytes writes and leaves
 pub record Runs (kinds : List Measure) (status : Status) (left left_now written written_now : Option (List ℕ))
-    (shelf shelf_now : ShelfView) : Type 0 where
+    (around around_now : Around) : Type 0 where
   pub taken : List ℕ
   pub takes : Takes status left left_now taken
   pub gained : List ℕ
   pub appended : Appends written written_now gained
-  pub writes : Writes status kinds left_now taken gained shelf shelf_now
+  pub writes : Writes status kinds left_now taken gained around around_now
 
 -- the source's count of faults rose where a read fault is answered, and else it is as before
 abbrev pub ReadFaults : Status → ℕ → ℕ → Type 0
@@ -190,22 +194,22 @@ TellsForm Words asked = asked ≡ None
 TellsForm NoMemory asked = Unit {0}
 TellsForm status asked = asked ≡ None → ⊥
 
--- a generated script was answered: its summary was written, and the source and the shelf are as before
+-- a generated script was answered: its summary was written, the source and the shelf are as before, and steps were added
 pub record Makes (status : Status) (seed edits : ℕ)
-    (left left_now written written_now : Option (List ℕ)) (shelf shelf_now : ShelfView) : Type 0 where
-  pub text : Generates status seed edits written written_now
+    (left left_now written written_now : Option (List ℕ)) (around around_now : Around) : Type 0 where
+  pub text : Generates status seed edits written written_now around.steps around_now.steps
   pub left_kept : left_now ≡ left
-  pub shelf_kept : shelf_now ≡ shelf
+  pub around_kept : around_now ≡ record around { steps = around_now.steps }
 
 -- what words ask for was done; where they ask for nothing, nothing was
 abbrev pub Does : Option Form → List Measure → Status → Option (List ℕ) → Option (List ℕ)
-    → Option (List ℕ) → Option (List ℕ) → ShelfView → ShelfView → Type 0
-Does None kinds status left left_now written written_now shelf shelf_now =
-    Runs kinds status left left_now written written_now shelf shelf_now
-Does (Some Run) kinds status left left_now written written_now shelf shelf_now =
-    Runs kinds status left left_now written written_now shelf shelf_now
-Does (Some (Gen seed edits)) kinds status left left_now written written_now shelf shelf_now =
-    Makes status seed edits left left_now written written_now shelf shelf_now
+    → Option (List ℕ) → Option (List ℕ) → Around → Around → Type 0
+Does None kinds status left left_now written written_now around around_now =
+    Runs kinds status left left_now written written_now around around_now
+Does (Some Run) kinds status left left_now written written_now around around_now =
+    Runs kinds status left left_now written written_now around around_now
+Does (Some (Gen seed edits)) kinds status left left_now written written_now around around_now =
+    Makes status seed edits left left_now written written_now around around_now
 
 -- the exit status
 abbrev pub exit_code : Status → ℕ

@@ -1,10 +1,10 @@
 //! Answers a generated script in a session of its own, and writes a summary of the replies.
 
-ghost use Rattle.std.specs.Prelude.{◌≡◌, ◌+◌, ◌<◌, ◌^◌, ◌++◌, IfOk, OnOk, Some, if◌then◌else◌, nat_lt, true};
+ghost use Rattle.std.specs.Prelude.{◌≡◌, ◌+◌, ◌<◌, ◌^◌, ◌++◌, IfOk, OnOk, OnErr, Some, if◌then◌else◌, nat_lt, true};
 ghost use Rattle.std.specs.FinMap as finite;
 ghost use Rattle.evm_model.specs.Scene.{start};
 ghost use Rattle.evm_outside.specs.Shelves.{is_file_name};
-ghost use Rattle.evm_tool.specs.Generated.{RepliesTo, IsCounted, SoFar, Sums, Generates, summary_by, RefusalsAreLacks, NoneRefusedWithMemory};
+ghost use Rattle.evm_tool.specs.Generated.{RepliesTo, IsCounted, SoFar, Sums, StopsEarly, Generates, summary_by, RefusalsAreLacks, NoneRefusedWithMemory};
 ghost use Rattle.evm_tool.specs.Top.{WriteFaults};
 
 use super::send::send;
@@ -13,8 +13,10 @@ use evm_generator::{Generator, generated_scripts_are_as_stated};
 use evm_meter::{Meter, StockMeter};
 use evm_outside::{FetchError, PlaceError, Shelf, Sink};
 use evm_session::{NoMemory, Session};
+use evm_steps::Steps;
 use evm_text::append_count;
 use std::alloc::Global;
+use std::sync::ledger::Ledger;
 
 /// A shelf without files, and without room for one: no line of a generated script asks it.
 #[derive(Drop)]
@@ -100,17 +102,19 @@ impl Tally {
 }
 
 /// The reply to one line in place of the text, and whether it does not refuse. Want of memory is a reply too.
-fn reply_to<M: Meter>(
+fn reply_to<M: Meter, L: Ledger>(
     alloc: Global,
     session: &mut Session<M>,
     line: &[u8],
     reply: &mut Vec<u8>,
+    steps: &mut Steps<L>,
 ) -> Result<bool, NoMemory>
-    ensures { RepliesTo result line.now session.old session.new reply.new.items }
+    ensures { RepliesTo result line.now session.old session.new reply.new.items
+        steps.old steps.new }
 {
     reply.clear();
     let mut shelf = NoFiles;
-    match session.answer(alloc, line, &mut shelf, reply) {
+    match session.answer(alloc, line, &mut shelf, reply, steps) {
         Ok(fine) => Ok(fine),
         Err(NoMemory) => {
             reply.extend_from_slice(b"no memory\n")?;
@@ -131,8 +135,15 @@ fn generated_lines_lack_memory_alone()
 }
 
 /// Answers each line of a generated script in a new session.
-fn tally_of(alloc: Global, seed: u64, edits: u32) -> Result<Tally, NoMemory>
-    ensures { IfOk result (λ tally. Sums seed edits tally.fine tally.refused tally.last.items) }
+fn tally_of<L: Ledger>(
+    alloc: Global,
+    seed: u64,
+    edits: u32,
+    steps: &mut Steps<L>,
+) -> Result<Tally, NoMemory>
+    ensures some { IfOk result (λ tally. Sums seed edits tally.fine tally.refused
+        tally.last.items steps.old steps.new) }
+    ensures none { OnErr result (StopsEarly seed edits steps.old steps.new) }
 {
     generated_scripts_are_as_stated();
     let mut session: Session<StockMeter> = Session::new(alloc, Vec::new(alloc))?;
@@ -146,7 +157,7 @@ fn tally_of(alloc: Global, seed: u64, edits: u32) -> Result<Tally, NoMemory>
     let mut line = Vec::new(alloc);
     let mut reply = Vec::new(alloc);
     while generator.line(&mut line)? {
-        let fine = reply_to(alloc, &mut session, line.as_slice(), &mut reply)?;
+        let fine = reply_to(alloc, &mut session, line.as_slice(), &mut reply, steps)?;
         tally.count(fine, reply.as_slice(), passed_over)?;
         line.clear();
     }
@@ -155,12 +166,19 @@ fn tally_of(alloc: Global, seed: u64, edits: u32) -> Result<Tally, NoMemory>
 
 /// Answers a generated script in a session of its own, and writes the summary of its replies. Memory is taken before anything is
 /// written.
-pub fn answer_generated<O: Sink>(alloc: Global, seed: u64, edits: u32, output: &mut O) -> Status
-    ensures text { Generates result seed edits (O.written output.old) (O.written output.new) }
+pub fn answer_generated<O: Sink, L: Ledger>(
+    alloc: Global,
+    seed: u64,
+    edits: u32,
+    output: &mut O,
+    steps: &mut Steps<L>,
+) -> Status
+    ensures text { Generates result seed edits (O.written output.old) (O.written output.new)
+        steps.old steps.new }
     ensures faults { WriteFaults result (O.faults output.old) (O.faults output.new) }
 {
     generated_lines_lack_memory_alone();
-    let Ok(tally) = tally_of(alloc, seed, edits) else {
+    let Ok(tally) = tally_of(alloc, seed, edits, steps) else {
         return Status::NoMemory;
     };
     let Ok(text) = tally.summary(alloc) else {

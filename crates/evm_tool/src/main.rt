@@ -4,7 +4,7 @@
 //! that the program does is in [`evm_main`], over any source, sink and shelf of files; `main` makes the real ones.
 #![tactic(auto)]
 
-ghost use Rattle.std.specs.Prelude.{◌≡◌, ◌∷◌, [], map, IfOk};
+ghost use Rattle.std.specs.Prelude.{◌≡◌, ◌<◌, ◌∷◌, [], map, IfOk};
 ghost use Rattle.evm_cells.specs.Localities.{Content, Boundary, VertexCount};
 ghost use Rattle.evm_meter.specs.Meters.{measure_named};
 
@@ -19,10 +19,13 @@ mod top;
 
 use evm_meter::StockMeter;
 use evm_outside::{FolderShelf, StdSink, StdSource};
+use evm_steps::Steps;
 use std::alloc::{AllocError, Global};
 use std::env;
 use std::io::ErrorKind;
+use std::marker::Brand;
 use std::process::ExitCode;
+use std::sync::ledger::{Blank, Ledger};
 use top::{Status, evm_main};
 
 /// The words of the command line. A word that is not UTF-8 makes no run.
@@ -54,8 +57,12 @@ fn stock_meters(alloc: Global) -> Result<Vec<StockMeter>, AllocError>
     ]?)
 }
 
-/// Runs the program over its real source, sink, shelf and meters.
-fn status_of(rt: &HostRuntime) -> Status {
+/// Runs the program over its real source, sink, shelf and meters, with its steps counted from none.
+fn run_counted<L: Ledger>(rt: &HostRuntime, blank: Blank) -> Status
+    requires name { blank.name ≡ L.name }
+    requires parts { blank.parts ≡ L.parts }
+    requires some { 0 < L.parts }
+{
     let words = match words_of(rt) {
         Ok(words) => words,
         Err(status) => return status,
@@ -66,6 +73,7 @@ fn status_of(rt: &HostRuntime) -> Status {
     let mut input = StdSource::new(rt.stdin());
     let mut output = StdSink::new(rt.stdout());
     let mut shelf = FolderShelf::new(rt);
+    let mut steps: Steps<L> = Steps::start(blank);
     evm_main(
         rt.alloc(),
         words.as_slice(),
@@ -73,11 +81,12 @@ fn status_of(rt: &HostRuntime) -> Status {
         &mut output,
         &mut shelf,
         meters,
+        &mut steps,
     )
 }
 
 fn main(rt: HostRuntime) -> ExitCode {
-    let status = status_of(&rt);
+    let status = run_counted::<Brand>(&rt, Blank::new(1));
     if status == Status::Words {
         let _ = eprintln!(rt; "usage: evm run | evm gen --seed S --edits N");
     }

@@ -4,14 +4,19 @@ mod failing;
 mod files;
 mod meters;
 
+ghost use Rattle.std.specs.Prelude.{◌≡◌, ◌<◌};
+
 use super::stock_meters;
 use super::take::{PIECE, SCRIPT_LIMIT};
 use super::top::{Status, evm_main};
 use evm_meter::Meter;
 use evm_outside::{MemShelf, MemSink, MemSource};
+use evm_steps::Steps;
 use std::alloc::{AllocError, Global};
+use std::marker::Brand;
 use std::process::Abort;
 use std::str;
+use std::sync::ledger::{Blank, Ledger};
 use std::test::Fail;
 
 /// Words of a command line.
@@ -47,6 +52,36 @@ fn no_files(alloc: Global) -> MemShelf {
     MemShelf::new(alloc, Vec::new(alloc))
 }
 
+/// The top call with these meters, with its steps counted by a new counter.
+fn counted<M: Meter, L: Ledger>(
+    blank: Blank,
+    alloc: Global,
+    words: &[String],
+    input: &mut MemSource,
+    output: &mut MemSink,
+    shelf: &mut MemShelf,
+    meters: Vec<M>,
+) -> Status
+    requires name { blank.name ≡ L.name }
+    requires parts { blank.parts ≡ L.parts }
+    requires some { 0 < L.parts }
+{
+    let mut steps: Steps<L> = Steps::start(blank);
+    evm_main(alloc, words, input, output, shelf, meters, &mut steps)
+}
+
+/// The top call with these meters.
+fn main_of<M: Meter>(
+    alloc: Global,
+    words: &[String],
+    input: &mut MemSource,
+    output: &mut MemSink,
+    shelf: &mut MemShelf,
+    meters: Vec<M>,
+) -> Status {
+    counted::<M, Brand>(Blank::new(1), alloc, words, input, output, shelf, meters)
+}
+
 /// How the top call ends with the meters of the program.
 fn end_of_run(
     alloc: Global,
@@ -56,7 +91,7 @@ fn end_of_run(
     shelf: &mut MemShelf,
 ) -> Result<Status, AllocError> {
     let meters = stock_meters(alloc)?;
-    Ok(evm_main(alloc, words, input, output, shelf, meters))
+    Ok(main_of(alloc, words, input, output, shelf, meters))
 }
 
 /// Runs a script over a shelf and with these meters, from a source and to a sink that do not fail.
@@ -69,7 +104,7 @@ fn run_over<M: Meter>(
     let words = words_of(alloc, &["evm", "run"])?;
     let mut input = MemSource::new(script, PIECE, Vec::new(alloc));
     let mut output = MemSink::new(alloc, 4096, Vec::new(alloc))?;
-    let status = evm_main(
+    let status = main_of(
         alloc,
         words.as_slice(),
         &mut input,

@@ -1,7 +1,7 @@
 //! The top call.
 
 ghost use Rattle.std.specs.Prelude.{◌≡◌, map, IfSome, string_bytes};
-ghost use Rattle.evm_session.specs.Answers.{shelf_view};
+ghost use Rattle.evm_session.specs.Answers.{around};
 ghost use Rattle.evm_words.specs.Words.{form_of_words};
 ghost use Rattle.evm_tool.specs.Top.{Runs, Does, TellsForm, ReadFaults, WriteFaults, Finishes, Completes, exit_code};
 
@@ -11,8 +11,10 @@ use super::take::new_buffer;
 use evm_meter::Meter;
 use evm_outside::{Shelf, Sink, Source};
 use evm_session::Session;
+use evm_steps::Steps;
 use evm_words::{Form, WordsError, read_words};
 use std::alloc::Global;
+use std::sync::ledger::Ledger;
 
 /// How a call of [`evm_main`] ended. The exit statuses are 0 to 6, in this order.
 #[derive(Clone, Copy, Debug, PartialEq, Eq)]
@@ -52,17 +54,18 @@ impl Status {
 }
 
 /// Answers the script of a source in a new session.
-fn answer_input<I: Source, O: Sink, S: Shelf, M: Meter>(
+fn answer_input<I: Source, O: Sink, S: Shelf, M: Meter, L: Ledger>(
     alloc: Global,
     input: &mut I,
     output: &mut O,
     shelf: &mut S,
     meters: Vec<M>,
+    steps: &mut Steps<L>,
 ) -> Status
     ensures run { Runs (map (λ m. M.kind m) meters.items) result
         (I.left input.old) (I.left input.new) (O.written output.old) (O.written output.new)
-        (shelf_view (S.files shelf.old) (S.faults shelf.old) (S.misses shelf.old))
-        (shelf_view (S.files shelf.new) (S.faults shelf.new) (S.misses shelf.new)) }
+        (around (S.files shelf.old) (S.faults shelf.old) (S.misses shelf.old) steps.old)
+        (around (S.files shelf.new) (S.faults shelf.new) (S.misses shelf.new) steps.new) }
     ensures words { result ≡ Status.Words → ⊥ }
     ensures reads { ReadFaults result (I.faults input.old) (I.faults input.new) }
     ensures sends { WriteFaults result (O.faults output.old) (O.faults output.new) }
@@ -86,6 +89,7 @@ fn answer_input<I: Source, O: Sink, S: Shelf, M: Meter>(
         shelf,
         &mut out,
         output,
+        steps,
     )
 }
 
@@ -111,13 +115,17 @@ fn answer_input<I: Source, O: Sink, S: Shelf, M: Meter>(
 ///
 /// `meters` have a slot each, counted from 0: the lines `meter`, `read` and `unmeter` hand them to names. Whatever meters are handed in,
 /// with a reading or without, as long as they keep the contract of [`Meter`], what they read is the measure of their names' values.
-pub fn evm_main<I: Source, O: Sink, S: Shelf, M: Meter>(
+///
+/// `steps` counts the combinations of two sections that formulas take, line by line at most the model's work of the line: what grows
+/// with the cuts near the change, and not with the solids.
+pub fn evm_main<I: Source, O: Sink, S: Shelf, M: Meter, L: Ledger>(
     alloc: Global,
     words: &[String],
     input: &mut I,
     output: &mut O,
     shelf: &mut S,
     meters: Vec<M>,
+    steps: &mut Steps<L>,
 ) -> Status
     // For `gen` there is a mark for each line of the generated script, none or that memory was missing, so that the summary of the
     // run with these marks was written whole at status 0 and 1, at 1 exactly where it refuses a line, which is exactly where
@@ -125,12 +133,13 @@ pub fn evm_main<I: Source, O: Sink, S: Shelf, M: Meter>(
     // taken, whatever the source tells of them, and the first k of their lines were answered in order, with exactly this number k
     // of marks: all at status 0 and 1; at 3 those that an LF ends; at 6 those that an LF ends among the bytes that a script may
     // have; at 4 those up to the one whose reply was cut, and at most one piece was taken after it; none at 2 and 5, at which no
-    // byte was taken. Replies, files and the shelf's counts are those of the run of these k lines.
+    // byte was taken. Replies, files and the shelf's counts are those of the run of these k lines, each of which added at most its
+    // work to the steps; so did the lines of the generated script, or, at 5, some of the first of them.
     ensures run { Does (form_of_words (map string_bytes words.now))
         (map (λ m. M.kind m) meters.items) result
         (I.left input.old) (I.left input.new) (O.written output.old) (O.written output.new)
-        (shelf_view (S.files shelf.old) (S.faults shelf.old) (S.misses shelf.old))
-        (shelf_view (S.files shelf.new) (S.faults shelf.new) (S.misses shelf.new)) }
+        (around (S.files shelf.old) (S.faults shelf.old) (S.misses shelf.old) steps.old)
+        (around (S.files shelf.new) (S.faults shelf.new) (S.misses shelf.new) steps.new) }
     // Status 2 comes exactly where the words ask for nothing, want of memory aside.
     ensures words { TellsForm result (form_of_words (map string_bytes words.now)) }
     // A fault is answered only where its count rose, and a count rises only then.
@@ -143,8 +152,8 @@ pub fn evm_main<I: Source, O: Sink, S: Shelf, M: Meter>(
         (I.faults input.old) (I.faults input.new) (O.faults output.old) (O.faults output.new)) }
 {
     match read_words(alloc, words) {
-        Ok(Form::Run) => answer_input(alloc, input, output, shelf, meters),
-        Ok(Form::Gen { seed, edits }) => answer_generated(alloc, seed, edits, output),
+        Ok(Form::Run) => { answer_input(alloc, input, output, shelf, meters, steps) }
+        Ok(Form::Gen { seed, edits }) => answer_generated(alloc, seed, edits, output, steps),
         Err(WordsError::NoForm) => Status::Words,
         Err(WordsError::NoMemory) => Status::NoMemory,
     }

@@ -1,4 +1,4 @@
-use Rattle.std.proofs.Common.{◌≡◌, ℕ, Some, List, Err, subst}
+use Rattle.std.proofs.Common.{◌≡◌, ℕ, ◌+◌, ◌≤◌, Some, List, Err, subst, arith}
 use Rattle.std.proofs.lemmas.Result.{err_from_is_err_and}
 use Rattle.evm_outside.specs.Shelves.{HasFile}
 use Rattle.evm_model.specs.Edits.{Replace, changed}
@@ -8,7 +8,7 @@ use Rattle.evm_model.specs.Steps.{Turn, edited}
 use Rattle.evm_formulas.specs.Stated.{figure_of}
 use Rattle.evm_session.specs.Carried.{Carries}
 use Rattle.evm_session.specs.Loads.{ReadsFigure}
-use Rattle.evm_session.proofs.Loading.{load_early, load_edits, load_over, unread_carries}
+use Rattle.evm_session.proofs.Loading.{load_early, load_edits, load_works, load_over, unread_carries}
 use Rattle.evm_session.proofs.files.load.Goals as goal
 
 pub returns-in_err-dim : goal.returns-in_err-dim
@@ -30,7 +30,7 @@ returns-in_err-solid g c =
     (subst (λ (bs : List ℕ). ReadsFigure (Err refusal) (figure_in form c.in_ok-dim.dim bs)) c.as_slice.ensures.value c.in_err-solid.ensures) in
     rw (p.1, p.2)
     (load_over (Err refusal) scene scene c.args.out.now.items c.reserve_number.new.out.items _ _ c.args.name form c.args.file.now bytes first has
-    c.in_ok-bytes.ensures.kept c.in_ok-bytes.ensures.faults c.in_ok-bytes.ensures.misses
+    c.in_ok-bytes.ensures.kept c.in_ok-bytes.ensures.faults c.in_ok-bytes.ensures.misses (omega arith)
     (unread_carries refusal scene c.args.name form c.args.file.now bytes c.args.out.now.items c.reserve_number.new.out.items first c.in_ok-reserve_number.ensures.items read))
 
 pub returns : goal.returns
@@ -45,8 +45,10 @@ returns g c =
     let read = subst (λ (n : ℕ). figure_in form n bytes ≡ Some figure) c.in_ok-dim.ensures.found.0
     (subst (λ (bs : List ℕ). figure_in form c.in_ok-dim.dim bs ≡ Some figure) c.as_slice.ensures.value c.in_ok-solid.ensures) in
     let carried = subst (λ (text : List ℕ). Carries c.edit.result scene c.edit.new.scene text c.edit.new.out.items (edited scene (Replace name figure) (Changed (changed scene (Replace name figure)))))
-    c.in_ok-reserve_number.ensures.items c.edit.ensures in
+    c.in_ok-reserve_number.ensures.items c.edit.ensures.carries in
+    let works = load_works scene name form c.args.file.now bytes figure first read in
     load_over c.edit.result scene c.edit.new.scene c.args.out.now.items c.edit.new.out.items _ _ name form c.args.file.now bytes first has
     c.in_ok-bytes.ensures.kept c.in_ok-bytes.ensures.faults c.in_ok-bytes.ensures.misses
+    (subst (λ (n : ℕ). c.edit.new.steps ≤ c.args.steps.now + n) works c.edit.ensures.few)
     (subst (λ (turn : Turn). Carries c.edit.result scene c.edit.new.scene c.args.out.now.items c.edit.new.out.items turn)
     (load_edits scene name form c.args.file.now bytes figure first read) carried)

@@ -1,4 +1,4 @@
-use Rattle.std.proofs.Common.{◌≡◌, ◌++◌, [], ℕ, nat_abs, ◌∙◌, refl, ap}
+use Rattle.std.proofs.Common.{◌≡◌, ◌++◌, [], nat_abs, ◌∙◌, refl, ap}
 use Rattle.std.proofs.lemmas.Result.{err_from_is_err_and}
 use Rattle.evm_rows.specs.View.{vertices_of}
 use Rattle.evm_model.specs.Figures.{Figure, proj_of}

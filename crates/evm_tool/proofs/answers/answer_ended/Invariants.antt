@@ -1,5 +1,5 @@
 use Rattle.std.proofs.Common.{◌≡◌, length}
-use Rattle.evm_session.specs.Answers.{shelf_view}
+use Rattle.evm_session.specs.Answers.{around}
 use Rattle.evm_tool.specs.Served.{ServesFront, state_of}
 use Rattle.evm_tool.proofs.answers.answer_ended.Given as goal
 
@@ -8,9 +8,9 @@ invariant-loop-line g l =
     record {
       so_far : ServesFront l.text l.rest l.refused
           (state_of l.fn.session (g.O.Sink.written l.fn.output)
-          (shelf_view (g.S.Shelf.files l.fn.shelf) (g.S.Shelf.faults l.fn.shelf) (g.S.Shelf.misses l.fn.shelf)))
+          (around (g.S.Shelf.files l.fn.shelf) (g.S.Shelf.faults l.fn.shelf) (g.S.Shelf.misses l.fn.shelf) l.fn.steps))
           (state_of l.session (g.O.Sink.written l.output)
-          (shelf_view (g.S.Shelf.files l.shelf) (g.S.Shelf.faults l.shelf) (g.S.Shelf.misses l.shelf)));
+          (around (g.S.Shelf.files l.shelf) (g.S.Shelf.faults l.shelf) (g.S.Shelf.misses l.shelf) l.steps));
       faults : g.O.Sink.faults l.output ≡ g.O.Sink.faults l.fn.output;
     }
 
