@@ -12,9 +12,9 @@
 //! The contracts speak of a session as a scene of `evm_model`, whose `answer` says for each scene, files and line what the reply is and
 //! what scene and files are after it: the vertices, measures, places, faces and parts there are those of sets of unit cells.
 //!
-//! The scene keeps the solid of each name, as a tree of tiles: a question that looks at all of it puts its rows together, one cell and a
-//! section of the first axis are looked for near them, and an edit of a name carries its change through the names that read it, by
-//! formulas of formulas too, and through no other. All that can fail comes before a session or a file changes: the reply to an edit, a
+//! The scene keeps the solid of each name, as a tree of tiles: cells are counted tile by tile, another question that looks at all of the
+//! solid puts its rows together, one cell and a section of the first axis are looked for near them, and an edit of a name carries its
+//! change through the names that read it, by formulas of formulas too, and through no other. All that can fail comes before a session or a file changes: the reply to an edit, a
 //! change of a slot or a save has its room before the scene makes it or the shelf places the file. A line takes memory for its words,
 //! for the file that it loads or saves, for the solids that its edit makes anew and what their meters look at, for the rows that its
 //! question looks at and what it counts with, and for its reply: at most 12 bytes a coordinate of `show`, and about 250 bytes a name of

@@ -52,8 +52,7 @@ pub fn content<M: Meter>(
     let Some(tree) = scene.kept(name) else {
         return Err(Refusal::Name);
     };
-    let solid = tree.to_rows(alloc)?;
-    let cells = measure::content(alloc, solid.rows())?;
+    let cells = tree.content(alloc)?;
     say_number(out, cells)?;
     Ok(())
 }

@@ -1,4 +1,5 @@
 pub mod Parts
 pub mod Trees
+pub mod Contents
 pub mod Showing
 pub mod Thin

@@ -4,6 +4,7 @@ ghost use Rattle.evm_cells.specs.Windows.{is_under, is_over};
 ghost use Rattle.std.specs.Prelude.{◌≡◌, ◌<◌, ◌≤◌, ◌+◌, suc, true, length, IfOk, IfSome};
 ghost use Rattle.std.specs.List.{list_all};
 ghost use Rattle.evm_cells.specs.Boxes.{is_box};
+ghost use Rattle.evm_cells.specs.Measures.{content};
 ghost use Rattle.evm_rows.specs.Rows.{cells_of};
 ghost use Rattle.evm_rows.specs.View.{vertices_of};
 ghost use Rattle.evm_tiles.specs.Trees.{node_cells, node_window, node_count, is_well, IsBoth, IsChanged, IsOne};
@@ -11,7 +12,7 @@ ghost use Rattle.evm_cutting.specs.Cuts.{IsBetween, cells_under, cells_over};
 ghost use Rattle.evm_tiles.specs.Splits.{IsApart};
 
 use crate::solids::{Side, both, side_of};
-use evm_cutting::{cut_at, halved};
+use evm_cutting::{content, cut_at, halved};
 use evm_rows::{NoMemory, Rows, Solid, limit};
 use evm_shapes::clip;
 use std::alloc::Global;
@@ -57,6 +58,22 @@ impl Node {
                 let above = high.whole(alloc, _dim)?;
                 let made = both(alloc, &below, &above)?;
                 Ok(made)
+            }
+        }
+    }
+
+    /// How many cells there are: those of the leaves, since no cell is in two of them.
+    pub(crate) fn content(&self, alloc: Global, _dim: usize) -> Result<u128, NoMemory>
+        requires high { _dim ≤ 6 }
+        requires well { is_well _dim self.now ≡ true }
+        ensures { IfOk result (λ n. n ≡ content (node_cells _dim self.now)) }
+    {
+        match self {
+            Node::Leaf { solid, .. } => content(alloc, solid.rows()),
+            Node::Cut { low, high, .. } => {
+                let below = low.content(alloc, _dim)?;
+                let above = high.content(alloc, _dim)?;
+                Ok(below + above)
             }
         }
     }

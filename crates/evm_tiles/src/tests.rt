@@ -49,7 +49,7 @@ fn checker(alloc: Global) -> Result<(Tiles, Solid), NoMemory>
     Ok((tree, list))
 }
 
-// Whether the tree has the rows of the list; what is in a box of four cells; and the section through twenty squares.
+// Whether the tree has the rows of the list, and four hundred cells; what is in a box of four cells; and the section through twenty squares.
 #[tactic(auto, unfolding(evm_cells::specs::Limits::limit, evm_cells::specs::Limits::is_point, evm_cells::specs::Limits::is_point_coord, evm_cells::specs::Limits::is_cell_coord, evm_cells::specs::Places::each))]
 fn compared(alloc: Global) -> Result<(bool, usize, usize), NoMemory> {
     let (tree, list) = checker(alloc)?;
@@ -58,7 +58,7 @@ fn compared(alloc: Global) -> Result<(bool, usize, usize), NoMemory> {
     let part = tree.window(alloc, &[0, 0], &[2, 2])?;
     let line = tree.section(alloc, 4)?;
     Ok((
-        whole.same(&list) && again.same(&list),
+        whole.same(&list) && again.same(&list) && tree.content(alloc)? == 400,
         part.len(),
         line.len(),
     ))

@@ -3,6 +3,7 @@
 ghost use Rattle.std.specs.Prelude.{◌≡◌, ◌≤◌, ◌-◌, true, IfOk};
 ghost use Rattle.evm_cells.specs.Limits.{is_cell_coord};
 ghost use Rattle.evm_cells.specs.Boxes.{is_box};
+ghost use Rattle.evm_cells.specs.Measures.{content};
 ghost use Rattle.evm_cells.specs.Vertices.{evm};
 ghost use Rattle.evm_rows.specs.Rows.{cells_of, IsSolid};
 ghost use Rattle.evm_rows.specs.View.{vertices_of};
@@ -95,6 +96,14 @@ impl Tiles {
         let made = self.root.whole(alloc, self.dim)?;
         made.facts();
         Ok(made)
+    }
+
+    /// How many cells the solid has, at most `2^120`. It is counted leaf by leaf, and no rows are put together: takes memory as
+    /// [`evm_cutting::content`] does for the rows of one leaf at a time. The one error is want of memory.
+    pub fn content(&self, alloc: Global) -> Result<u128, NoMemory>
+        ensures { IfOk result (λ n. n ≡ content (cells_of self.now)) }
+    {
+        self.root.content(alloc, self.dim)
     }
 
     /// The cells in the box from `lo` up to, but not at, `hi` on each axis. Only the leaves whose tiles the box meets are looked at.

@@ -1,7 +1,4 @@
 use Rattle.std.proofs.Common.{◌≡◌, ◌++◌, List, ℕ, codes, decimal, ◌∙◌, refl, ap}
-use Rattle.evm_cells.specs.Vertices.{cells}
-use Rattle.evm_cells.specs.Measures.{content}
-use Rattle.evm_rows.specs.Rows.{Vertices}
 use Rattle.evm_model.specs.Figures.{content_of}
 use Rattle.evm_model.specs.Scene.{value}
 use Rattle.evm_model.specs.Edits.{name_causes}
@@ -18,7 +15,7 @@ returns g c =
     let v = c.in-Some.tree.now in
     let n = c.in_ok-cells.cells in
     let counted : n ≡ content_of (value scene name) =
-    content_found v n (c.in_ok-cells.ensures ∙ ap (λ (a : Vertices). content (cells a.dim a.rows)) (c.rows.ensures ∙ c.in_ok-solid.ensures))
+    content_found v n c.in_ok-cells.ensures
     ∙ ap content_of c.in-Some.ensures.value.1 in
     let text = c.in_ok-say_number.ensures
     ∙ ap (λ (k : ℕ). c.args.out.now.items ++ line_of (codes "ok " ++ decimal k)) counted
