@@ -10,15 +10,19 @@ use crate::sides::under;
 use evm_rows::{NoMemory, Rows, Solid, limit, xor};
 use std::alloc::Global;
 
+/// Of how many rows at least the coordinate is looked at for a plane, where there are as many.
+const SAMPLE: usize = 64;
+
 /// A middle coordinate on an axis, counted from 0, above the least one and strictly within the limits of the dimension; none where
-/// there is no such coordinate among those that were looked at. Takes memory for at most 1024 of them.
+/// there is no such coordinate among those that were looked at. Every so many rows one is: of an odd number of rows, since the rows of
+/// a line come in pairs. Takes memory for at most 128 coordinates.
 pub(crate) fn middle(alloc: Global, a: Rows<'_>, axis: usize) -> Result<Option<i32>, NoMemory>
     requires { axis < (vertices_of a).dim }
     ensures { IfOk result (λ o. IfSome o (λ at. IsBetween (vertices_of a.entry).dim axis at)) }
 {
     let limit = limit(a.dim());
-    let step = a.len() / 1024 + 1;
-    let mut heights = Vec::with_capacity(alloc, 1024)?;
+    let step = a.len() / (2 * SAMPLE) * 2 + 1;
+    let mut heights = Vec::with_capacity(alloc, 2 * SAMPLE)?;
     let mut row = 0;
     while row < a.len() {
         heights.push(a.coord(row, axis + 1))?;
@@ -54,8 +58,8 @@ pub struct Split {
     pub high: Solid,
 }
 
-/// The two sides of a plane, both in one pass, in which nothing is sorted. Takes memory for two times as many numbers as the solid has,
-/// once, and what `odd_places` takes.
+/// The two sides of a plane, both in one pass. Rows come out in the order in which they stand; only the places that close a side are
+/// sorted. Takes memory for two times as many numbers as the solid has, once, and for a key of 16 bytes a row of a side.
 ///
 /// Where the view passes over numbers of its rows, what is below is made as [`crate::under`] does, which sorts there, and what is above
 /// is the exclusive or of the solid and of what is below: one merge.
@@ -92,7 +96,7 @@ fn split_at(alloc: Global, solid: &Solid, axis: usize, at: i32) -> Result<Option
 
 /// The two sides of a plane across some axis, the first that serves from `first` on, counted from 0 and past the last axis again from
 /// the first: a plane serves that leaves to each side at most seven of eight rows. None where there is no such plane among those that
-/// were looked at. Takes memory for the two sides and for at most 1024 coordinates.
+/// were looked at. Takes memory for the two sides and for at most 128 coordinates.
 pub fn halved(alloc: Global, solid: &Solid, first: usize) -> Result<Option<Split>, NoMemory>
     ensures { IfOk result (λ o. IfSome o (IsSplit solid.now)) }
 {

@@ -1,9 +1,10 @@
-//! The two sides of a plane, by the order in which rows stand: no sort.
+//! The two sides of a plane, by the order in which rows stand: only places that close a side are sorted.
 
 ghost use Rattle.std.specs.Prelude.{◌≡◌, ◌-◌, ◌%◌, ◌<◌, ◌<ℤ◌, ◌≤◌, ◌++◌, length, map, neg_ℤ, pos, IfOk, OnOk};
 ghost use Rattle.evm_cells.specs.Limits.{limit};
 ghost use Rattle.evm_cells.specs.Vertices.{IsVertexList};
 ghost use Rattle.evm_cells.specs.Windows.{IsReduced};
+ghost use Rattle.evm_rows.specs.Groups.{IsOddPart};
 ghost use Rattle.evm_rows.specs.Rows.{rows_of, flat_of, cells_of, merge_xor};
 ghost use Rattle.evm_rows.specs.View.{vertices_of};
 ghost use Rattle.evm_cutting.specs.Cuts.{cells_under, IsBetween};
@@ -12,6 +13,7 @@ ghost use Rattle.evm_cutting.specs.Splits.{IsSplitAt};
 
 use crate::halves::Split;
 use evm_rows::{NoMemory, Rows, Solid, extend_by_xor, first_group, odd_places, split_row};
+use evm_shapes::reduced_by_keys;
 use std::alloc::{AllocError, Global};
 
 // The first rows, whose numbers at `axis` are below `at`, and the rows after them, of which the first has no such number. Rows have
@@ -64,6 +66,28 @@ fn append_put(
     Ok(())
 }
 
+// The places of rows without their first `skip` numbers that occur there an odd number of times, ascending. Where few numbers are left
+// of a row they are sorted as keys: in a small solid that takes less time than a list for each half of the rows.
+fn closing_places(
+    alloc: Global,
+    rows: &[i32],
+    width: usize,
+    skip: usize,
+) -> Result<Vec<i32>, AllocError>
+    requires left { skip < width }
+    requires narrow { width ≤ 6 }
+    requires whole { length rows.now % width ≡ 0 }
+    ensures whole { IfOk result (λ v. length v.items % (width - skip) ≡ 0) }
+    ensures odd { IfOk result
+        (λ v. IsOddPart (rows_of rows.now width skip) (rows_of v.items (width - skip) 0)) }
+{
+    if width - skip <= 4 {
+        reduced_by_keys(alloc, rows, width, skip)
+    } else {
+        odd_places(alloc, rows, width, skip)
+    }
+}
+
 // Appends the rows that close rows which share the numbers before `axis`: those numbers and `at`, before each place that occurs an
 // odd number of times behind `axis`. Where nothing is behind it, the number of rows tells.
 fn append_closing(
@@ -91,7 +115,7 @@ fn append_closing(
         }
         return Ok(());
     }
-    let places = odd_places(alloc, rows, width, axis + 1)?;
+    let places = closing_places(alloc, rows, width, axis + 1)?;
     append_put(out, head, at, places.as_slice(), width - axis - 1)
 }
 
@@ -225,9 +249,9 @@ fn rows_of_both(
 ///
 /// The rows that share the numbers before the axis stand together. Of these, the rows below the plane stay as they are, and the
 /// places that occur an odd number of times behind the axis, put at the plane, come after them: so all rows come out in order, and
-/// nothing is sorted. The places come by merges of halves in which equal ones cancel, as `odd_places` takes them, of the fewer rows
-/// of the two sides. Makes nothing of what is above. Takes memory for as many numbers as the solid has, once, and what `odd_places`
-/// takes.
+/// they are not sorted. The places are sorted as keys where they have at most four numbers, else come by merges of halves in which
+/// equal ones cancel, of the fewer rows of the two sides. Makes nothing of what is above. Takes memory for as many numbers as the solid
+/// has, once, and what `reduced_by_keys` or `odd_places` takes for the rows that share numbers.
 pub(crate) fn below(alloc: Global, a: Rows<'_>, axis: usize, at: i32) -> Result<Solid, NoMemory>
     requires skip { a.skip ≡ 0 }
     requires axis { axis < (vertices_of a).dim }
@@ -240,11 +264,11 @@ pub(crate) fn below(alloc: Global, a: Rows<'_>, axis: usize, at: i32) -> Result<
     Ok(Solid::from_rows(a.width, flat))
 }
 
-/// The two sides of a plane, in one pass, in which nothing is sorted.
+/// The two sides of a plane, in one pass, in which only the places that close a side are sorted.
 ///
 /// Of the rows that share the numbers before the axis, those of what is below are as in `below`. What is above has the rows that close
 /// them, merged with the group's rows at the plane or above it, where equal ones cancel: so both sides come out in order. Takes memory
-/// for two times as many numbers as the solid has, once, and what `odd_places` takes.
+/// for two times as many numbers as the solid has, once, and what closing takes in `below`.
 pub(crate) fn both_sides(
     alloc: Global,
     a: Rows<'_>,

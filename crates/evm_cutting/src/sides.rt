@@ -12,8 +12,8 @@ use evm_shapes::clip;
 use std::alloc::Global;
 
 /// What a solid has below the plane at `at` across an axis, counted from 0. The plane lies strictly within the limits of the
-/// dimension. Sorts nothing, and takes memory for as many numbers as the solid has, once, and what `odd_places` takes; where the view
-/// passes over numbers of its rows, it sorts and takes memory as `clip` does.
+/// dimension. Sorts only the places that close it, and takes memory for as many numbers as the solid has, once, and for a key of 16
+/// bytes a row of a side; where the view passes over numbers of its rows, it sorts and takes memory as `clip` does.
 pub fn under(alloc: Global, a: Rows<'_>, axis: usize, at: i32) -> Result<Solid, NoMemory>
     requires axis { axis < (vertices_of a).dim }
     requires low { neg_ℤ (pos (limit (vertices_of a).dim)) <ℤ at }
@@ -34,8 +34,8 @@ pub fn under(alloc: Global, a: Rows<'_>, axis: usize, at: i32) -> Result<Solid, 
 }
 
 /// What a solid has above the plane at `at` across an axis, counted from 0. The plane lies strictly within the limits of the
-/// dimension. It is the one side of what [`crate::cut_at`] makes, in the same pass and memory, and sorts nothing; where the view passes
-/// over numbers of its rows, it sorts and takes memory as `clip` does.
+/// dimension. It is the one side of what [`crate::cut_at`] makes, in the same pass and memory; where the view passes over numbers of its
+/// rows, it sorts and takes memory as `clip` does.
 pub fn over(alloc: Global, a: Rows<'_>, axis: usize, at: i32) -> Result<Solid, NoMemory>
     requires axis { axis < (vertices_of a).dim }
     requires low { neg_ℤ (pos (limit (vertices_of a).dim)) <ℤ at }

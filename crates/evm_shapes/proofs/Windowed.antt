@@ -4,7 +4,7 @@ use Rattle.std.specs.List.{list_all}
 use Rattle.std.specs.List.{All}
 use Rattle.std.proofs.Math.Nat.{div-div-eq-div-mul}
 use Rattle.std.proofs.lemmas.Nat.{div-mul-add, mod-mul-add, mod_below, div-add-mod', mul-le}
-use Rattle.std.proofs.lemmas.List.{map-append}
+use Rattle.std.proofs.lemmas.List.{map-append, take_all}
 use Rattle.std.proofs.lemmas.List.Elements.{All-push, All-pop, All-same, All-append, All-cons, All-nil}
 use Rattle.evm_cells.specs.Booleans.{xor}
 use Rattle.evm_cells.specs.Places.{same, without}
@@ -54,6 +54,10 @@ low_put n lo hi row ks k js h R rest L p u r l g =
 
 pub low_all : (row : List ℤ) (h : ℤ) (R rest V : List (List ℤ)) → R ≡ row ∷ rest → int_lt (get_or row 0 (pos 0)) h ≡ true → (low_rows h R ≡ R → low_rows h V ≡ V) → low_rows h rest ≡ rest → low_rows h V ≡ V
 low_all row h R rest V r l f e = f (low_goes_on h R rest row r l ∙ ap (λ (z : List (List ℤ)). row ∷ z) e ∙ sym r)
+
+-- a row that is cut to the length it has
+pub cut_row : (n : ℕ) (row long : List ℤ) (R rest : List (List ℤ)) → length long ≤ n → row ≡ take n long → R ≡ long ∷ rest → R ≡ row ∷ rest
+cut_row n row long R rest l f e = e ∙ ap (λ (p : List ℤ). p ∷ rest) (sym (f ∙ take_all n long l))
 
 pub low_none : (h : ℤ) (R : List (List ℤ)) → R ≡ [] → low_rows h R ≡ []
 unfolding low_rows

@@ -17,6 +17,7 @@ use evm_rows::{NoMemory, Rows, Solid, own, split_row};
 use std::alloc::{AllocError, Global};
 
 /// The number, moved between the two: the nearer of them where it is not between. Takes no memory.
+#[inline(always)]
 #[tactic(auto, unfolding(evm_cells::specs::Windows::between))]
 fn between(x: i32, lo: i32, hi: i32) -> i32
     ensures { result ≡ between lo hi x }
@@ -31,6 +32,7 @@ fn between(x: i32, lo: i32, hi: i32) -> i32
 }
 
 // A number of a row, moved into the box.
+#[inline(always)]
 pub(crate) fn moved_at(row: &[i32], lo: &[i32], hi: &[i32], k: usize) -> i32
     requires row { k < length row.now }
     requires low { k < length lo.now }

@@ -15,6 +15,7 @@ use evm_rows::{Rows, split_row};
 use std::alloc::{AllocError, Global};
 
 // The key of a row that is moved into the box.
+#[inline(always)]
 fn moved_key(row: &[i32], lo: &[i32], hi: &[i32]) -> u128
     requires narrow { length row.now ≤ 4 }
     requires low { length lo.now ≡ length row.now }
@@ -36,7 +37,16 @@ struct LowKeys {
     all: bool,
 }
 
-fn low_keys(alloc: Global, a: Rows<'_>, lo: &[i32], hi: &[i32]) -> Result<LowKeys, AllocError>
+// Those keys. Where the compiler knows `dim`, a row becomes its key with no loop and no call.
+#[inline(always)]
+fn low_keys_of(
+    alloc: Global,
+    a: Rows<'_>,
+    dim: usize,
+    lo: &[i32],
+    hi: &[i32],
+) -> Result<LowKeys, AllocError>
+    requires dim { dim ≡ (vertices_of a).dim }
     requires narrow { (vertices_of a).dim ≤ 4 }
     requires inside { is_box (vertices_of a).dim lo.now hi.now ≡ true }
     ensures { IfOk result
@@ -45,7 +55,8 @@ fn low_keys(alloc: Global, a: Rows<'_>, lo: &[i32], hi: &[i32]) -> Result<LowKey
     let mut keys: Vec<u128> = Vec::with_capacity(alloc, a.len())?;
     let mut left = a.flat;
     while left.len() != 0 {
-        let (row, rest) = split_row(left, a.width, a.skip);
+        let (whole_row, rest) = split_row(left, a.width, a.skip);
+        let (row, _) = whole_row.split_at(dim);
         if hi[0] <= row[0] {
             return Ok(LowKeys { keys, all: false });
         }
@@ -53,6 +64,21 @@ fn low_keys(alloc: Global, a: Rows<'_>, lo: &[i32], hi: &[i32]) -> Result<LowKey
         left = rest;
     }
     Ok(LowKeys { keys, all: true })
+}
+
+// Those keys. It is compiled apart for each number of coordinates, so that no row is read by a loop of unknown length.
+fn low_keys(alloc: Global, a: Rows<'_>, lo: &[i32], hi: &[i32]) -> Result<LowKeys, AllocError>
+    requires narrow { (vertices_of a).dim ≤ 4 }
+    requires inside { is_box (vertices_of a).dim lo.now hi.now ≡ true }
+    ensures { IfOk result
+        (λ l. IsLowKeys lo.now hi.now (vertices_of a.entry) l.keys.items l.all) }
+{
+    match a.dim() {
+        1 => low_keys_of(alloc, a, 1, lo, hi),
+        2 => low_keys_of(alloc, a, 2, lo, hi),
+        3 => low_keys_of(alloc, a, 3, lo, hi),
+        _ => low_keys_of(alloc, a, 4, lo, hi),
+    }
 }
 
 // The words of a key but the first.

@@ -13,6 +13,7 @@ mod slices;
 mod turns;
 
 pub use clips::clip;
+pub use keys::reduced_by_keys;
 pub use order::reduced;
 pub use prisms::lift;
 pub use projections::project;

@@ -87,7 +87,7 @@ pub fn reduced(alloc: Global, flat: &[i32], width: usize) -> Result<Vec<i32>, Al
         (λ v. IsReduced width (rows_of flat.now width 0) (rows_of v.items width 0)) }
 {
     if width <= 4 {
-        reduced_by_keys(alloc, flat, width)
+        reduced_by_keys(alloc, flat, width, 0)
     } else {
         reduced_by_rows(alloc, flat, width)
     }

@@ -1,7 +1,7 @@
 use Rattle.std.proofs.Common.{arith}
 use Rattle.evm_shapes.specs.Keys.{unpacked}
 use Rattle.evm_shapes.proofs.Sorted.{pair_out, one_out, all_out}
-use Rattle.evm_shapes.proofs.keys.append_unpaired.Goals as goal
+use Rattle.evm_shapes.proofs.keys.append_unpaired_of.Goals as goal
 
 pub loop-i-preserved-then-is_paired : goal.loop-i-preserved-then-is_paired
 loop-i-preserved-then-is_paired c =

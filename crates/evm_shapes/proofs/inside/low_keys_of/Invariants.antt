@@ -5,7 +5,7 @@ use Rattle.evm_rows.specs.Rows.{rows_of}
 use Rattle.evm_shapes.specs.Keys.{unpacked, room}
 use Rattle.evm_shapes.specs.Moves.{low_rows}
 use Rattle.evm_shapes.proofs.Lone.{Gathered}
-use Rattle.evm_shapes.proofs.inside.low_keys.Given as goal
+use Rattle.evm_shapes.proofs.inside.low_keys_of.Given as goal
 
 abbrev pub invariant-loop-left : goal.invariant-loop-left
 invariant-loop-left l = record {

@@ -12,8 +12,8 @@ use Rattle.evm_shapes.specs.Keys.{room}
 use Rattle.evm_shapes.proofs.Closing.{low_stops}
 use Rattle.evm_shapes.proofs.Lone.{gathered_end}
 use Rattle.evm_shapes.proofs.Packed.{keys_start, room_is}
-use Rattle.evm_shapes.proofs.Windowed.{put_room, low_put, low_all, low_none, key_row}
-use Rattle.evm_shapes.proofs.inside.low_keys.Goals as goal
+use Rattle.evm_shapes.proofs.Windowed.{put_room, low_put, low_all, low_none, key_row, cut_row}
+use Rattle.evm_shapes.proofs.inside.low_keys_of.Goals as goal
 
 pub loop-left-init : goal.loop-left-init
 loop-left-init c =
@@ -46,14 +46,15 @@ pub returns-then-hi-row : goal.returns-then-hi-row
 returns-then-hi-row c =
     let n : ℕ = c.args.a.width - c.args.a.skip in
     let y : ℤ = get_or c.args.hi.now 0 (pos 0) in
-    let row = c.split_row.result.0.now in
+    let row = c.split_at.result.0.now in
     let x : ℤ = get_or row 0 (pos 0) in
     let end : SFits w32 y = search rules in
     let first : SFits w32 x = search rules in
     let h : int_le y x ≡ true = rw (same32 y end, same32 x first) at c.if-hi-row.true in
+    let cut = cut_row c.args.dim row _ _ _ (let w = c.split_row.ensures.wide in let d = c.requires.dim in omega (arith, c.args.a.left)) c.split_at.ensures.front c.split_row.ensures.first in
     record {
       room = c.loop-left.invariant.room;
-      lone = gathered_end n _ _ _ (ap (map (clamped c.args.lo.now c.args.hi.now)) (low_stops y _ _ row c.split_row.ensures.first (lt_no x y (le_is y x h)))) c.loop-left.invariant.so_far;
+      lone = gathered_end n _ _ _ (ap (map (clamped c.args.lo.now c.args.hi.now)) (low_stops y _ _ row cut (lt_no x y (le_is y x h)))) c.loop-left.invariant.so_far;
       whole = λ e. absurd (true≢false (sym e));
     }
 
@@ -61,20 +62,21 @@ pub loop-left-preserved : goal.loop-left-preserved
 loop-left-preserved c =
     let n : ℕ = c.args.a.width - c.args.a.skip in
     let y : ℤ = get_or c.args.hi.now 0 (pos 0) in
-    let row = c.split_row.result.0.now in
+    let row = c.split_at.result.0.now in
     let x : ℤ = get_or row 0 (pos 0) in
     let end : SFits w32 y = search rules in
     let first : SFits w32 x = search rules in
     let h : int_le y x ≡ false = rw (same32 y end, same32 x first) at c.if-hi-row.false in
     let t : int_lt x y ≡ true = lt_yes x y (not_most y x h) in
-    let e : length row ≡ n = let w = c.split_row.ensures.wide in omega (arith, c.args.a.left) in
+    let e : length row ≡ n = c.split_at.ensures.front_len ∙ c.requires.dim in
+    let cut = cut_row c.args.dim row _ _ _ (let w = c.split_row.ensures.wide in let d = c.requires.dim in omega (arith, c.args.a.left)) c.split_at.ensures.front c.split_row.ensures.first in
     record {
       whole = c.split_row.ensures.whole;
       room = put_room n _ _ _ c.in_ok-put.ensures c.loop-left.invariant.room (room_is n row c.moved_key.result e c.moved_key.ensures.room);
       so_far =
-          low_put n c.args.lo.now c.args.hi.now row _ c.moved_key.result _ y _ _ _ c.in_ok-put.ensures (key_row (length row) n c.moved_key.result _ e c.moved_key.ensures.row) c.split_row.ensures.first t
+          low_put n c.args.lo.now c.args.hi.now row _ c.moved_key.result _ y _ _ _ c.in_ok-put.ensures (key_row (length row) n c.moved_key.result _ e c.moved_key.ensures.row) cut t
           c.loop-left.invariant.so_far;
-      all = low_all row y _ _ _ c.split_row.ensures.first t c.loop-left.invariant.all;
+      all = low_all row y _ _ _ cut t c.loop-left.invariant.all;
     }
 
 pub returns : goal.returns

@@ -2,7 +2,7 @@ use Rattle.std.proofs.Common.{◌≡◌, ◌≤◌, ◌-◌, ◌++◌, length, d
 use Rattle.evm_rows.specs.Rows.{flat_of}
 use Rattle.evm_shapes.specs.Keys.{unpacked}
 use Rattle.evm_shapes.specs.Order.{unpaired}
-use Rattle.evm_shapes.proofs.keys.append_unpaired.Given as goal
+use Rattle.evm_shapes.proofs.keys.append_unpaired_of.Given as goal
 
 abbrev pub invariant-loop-i : goal.invariant-loop-i
 invariant-loop-i l = record {
