@@ -9,5 +9,6 @@ pub mod Near
 pub mod Columns
 pub mod HeightLaws
 pub mod NearHeights
+pub mod OpenWindows
 pub mod ChangeHeights
 pub mod ShapeHeights

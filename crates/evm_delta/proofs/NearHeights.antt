@@ -1,10 +1,8 @@
 -- A window changes only where the change that it is taken for does, or where the tree does.
-use Rattle.std.proofs.Common.{◌≡◌, ℕ, zero, suc, ◌+◌, ◌-◌, ◌<◌, ◌≤◌, inl, inr, true, List, [], ◌∷◌, length, take, get_or, slice_set, ℤ, pos, neg_ℤ, ◌<ℤ◌, refl, sym, ap, ◌∙◌, arith, subst, ⊎_elim}
+use Rattle.std.proofs.Common.{◌≡◌, ℕ, zero, suc, ◌+◌, ◌-◌, ◌<◌, ◌≤◌, inl, inr, true, List, [], ◌∷◌, length, take, get_or, slice_set, ℤ, pos, neg_ℤ, ◌<ℤ◌, sym, ap, ◌∙◌, arith, subst, ⊎_elim}
 use Rattle.std.proofs.lemmas.Int.{ints as int_facts}
 use Rattle.evm_cells.specs.Heights.{is_cut, is_spanned}
 use Rattle.evm_cells.specs.Limits.{limit, is_point, is_point_coord}
-use Rattle.std.proofs.lemmas.Grind.{get_or-set_at}
-use Rattle.std.proofs.lemmas.List.{get_or-set_other, length-set}
 use Rattle.evm_cells.specs.Shapes.{clip}
 use Rattle.evm_cells.specs.Vertices.{cells, IsVertexList}
 use Rattle.evm_cells.proofs.Slices.{coord}
@@ -12,7 +10,7 @@ use Rattle.evm_cells.proofs.Universe.{cell_set-cells}
 use Rattle.evm_rows.specs.Rows.{Vertices, cells_of}
 use Rattle.evm_cutting.specs.Hulls.{IsLow, IsHigh, IsAround}
 use Rattle.evm_cutting.proofs.HullLaws.{row_point}
-use Rattle.evm_delta.specs.Hulls.{HasNearCuts, HasColumnCuts}
+use Rattle.evm_delta.specs.Hulls.{IsOpenBox, HasNearCuts, HasColumnCuts}
 use Rattle.evm_delta.proofs.HeightLaws.{changes, spanned, between_cuts, window_changes, open_window_changes, row_changes, first_is_low, last_is_high, all_get}
 use Rattle.evm_delta.proofs.Columns.{set_around}
 
@@ -89,22 +87,14 @@ open_cuts_are (suc m) (l ∷ lo) (u ∷ hi) d t s o et es ll lh a b e h p =
     let C : List (List ℤ) = clip n (l ∷ take m lo) (u ∷ take m hi) T in
     cut_is m t h et ∙ open_window_changes m l u h (take m lo) (take m hi) T (cell_set-cells n t.rows) a b (sym (cut_of m s C h es e) ∙ p)
 
--- of a window that is opened along axis i
-pub column_cuts_are : (n i : ℕ) (x y : ℤ) (lo hi : List ℤ) (d t s : Vertices) → 0 < n → d.dim ≡ n → t.dim ≡ n → s.dim ≡ n → n ≤ length lo → n ≤ length hi
-    → x ≡ neg_ℤ (pos (limit n)) → y ≡ pos (limit n)
-    → is_cut d.dim (cells_of d) (coord 0 lo) ≡ true → is_cut d.dim (cells_of d) (coord 0 hi) ≡ true
-    → cells_of s ≡ clip n (take n (slice_set lo i x)) (take n (slice_set hi i y)) (cells n t.rows) → HasColumnCuts i d t s
-column_cuts_are n zero x y lo hi d t s o ed et es ll lh ex ey a b e h p =
+-- of a window in the opened box
+pub column_cuts_are : (n i : ℕ) (lo hi : List ℤ) (d t s : Vertices) → 0 < n → d.dim ≡ n → t.dim ≡ n → s.dim ≡ n → n ≤ length lo → n ≤ length hi
+    → IsOpenBox i lo hi d → cells_of s ≡ clip n (take n lo) (take n hi) (cells n t.rows) → HasColumnCuts i d t s
+column_cuts_are n zero lo hi d t s o ed et es ll lh b e h p =
     inr (
-      open_cuts_are n (slice_set lo 0 x) (slice_set hi 0 y) d t s o et es
-          (let k = length-set lo 0 x in omega (arith, k)) (let k = length-set hi 0 y in omega (arith, k))
-          (get_or-set_at lo 0 0 x (pos 0) refl (omega arith) ∙ ex) (get_or-set_at hi 0 0 y (pos 0) refl (omega arith) ∙ ey) e h p,
+      open_cuts_are n lo hi d t s o et es ll lh (b.low ∙ ap (λ (m : ℕ). neg_ℤ (pos (limit m))) ed) (b.high ∙ ap (λ (m : ℕ). pos (limit m)) ed) e h p,
       λ z. absurd (omega arith),
     )
-column_cuts_are n (suc i) x y lo hi d t s o ed et es ll lh ex ey a b e h p =
-    let f : coord 0 (slice_set lo (suc i) x) ≡ coord 0 lo = get_or-set_other lo (suc i) 0 x (pos 0) (λ z. omega (arith, z)) in
-    let g : coord 0 (slice_set hi (suc i) y) ≡ coord 0 hi = get_or-set_other hi (suc i) 0 y (pos 0) (λ z. omega (arith, z)) in
+column_cuts_are n (suc i) lo hi d t s o ed et es ll lh b e h p =
     ⊎_elim (λ q. inl q) (λ q. inr (q.0, λ z. q.1))
-    (near_cuts_are n (slice_set lo (suc i) x) (slice_set hi (suc i) y) d t s o ed et es
-    (let k = length-set lo (suc i) x in omega (arith, k)) (let k = length-set hi (suc i) y in omega (arith, k))
-    (ap (is_cut d.dim (cells_of d)) f ∙ a) (ap (is_cut d.dim (cells_of d)) g ∙ b) e h p)
+    (near_cuts_are n lo hi d t s o ed et es ll lh (b.first (omega arith)) (b.last (omega arith)) e h p)

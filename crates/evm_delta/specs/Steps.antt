@@ -1,9 +1,9 @@
 -- How many steps a change may take. A cut is a height of the first axis at which a solid changes.
-use Rattle.std.specs.Prelude.{ℕ, ◌==◌, Bool, false, if◌then◌else◌, List, [], ◌∷◌}
+use Rattle.std.specs.Prelude.{ℕ, ◌==◌, Bool, false, if◌then◌else◌, [], ◌∷◌}
 use Rattle.evm_cells.specs.Heights.{cut_count, spanned_cut_count}
 use Rattle.evm_rows.specs.Rows.{Vertices, cells_of}
 use Rattle.evm_delta.specs.declared.shapes.Op1.{Op1}
-use Rattle.evm_delta.specs.declared.shapes.Op1.TheVariants.{Shift, Mirror, Swap, Clip, Slice, Proj, Lift}
+use Rattle.evm_delta.specs.declared.shapes.Op1.TheVariants.{Proj}
 use Rattle.evm_delta.specs.Shapes.{changed_cells}
 
 -- how many cuts two operands have, before or after, in the least range that has their changes

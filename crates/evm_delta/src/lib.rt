@@ -21,5 +21,5 @@ mod shapes;
 mod tests;
 
 pub use boolean_changes::delta2;
-pub use shape_changes::delta1;
+pub use shape_changes::{delta1, projection_change};
 pub use shapes::{DeltaError, Op1, shape};

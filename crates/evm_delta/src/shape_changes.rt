@@ -4,10 +4,10 @@ ghost use Rattle.evm_rows.specs.Rows.{cells_of};
 ghost use Rattle.evm_rows.specs.View.{vertices_of};
 ghost use Rattle.evm_shapes.specs.Shapes.{projected_cells};
 ghost use Rattle.evm_steps.specs.Cuts.{cuts_of};
-ghost use Rattle.evm_delta.specs.Shapes.{Fits, op1_dim, in_range, changed_cells, shape_change, IsShapeChange, CarriesShape};
+ghost use Rattle.evm_delta.specs.Shapes.{Fits, op1_dim, in_range, shape_before, changed_cells, shape_change, IsShapeChange, CarriesShape};
 ghost use Rattle.evm_delta.specs.Steps.{shape_cuts};
 
-use crate::hulls::near_columns;
+use crate::hulls::{near_columns, open_box, without_axis};
 use crate::shapes::{DeltaError, Op1, shape};
 use evm_rows::{NoMemory, Rows, Solid, xor};
 use evm_shapes::project;
@@ -119,4 +119,78 @@ pub fn delta1<L: Ledger>(
         Op1::Proj(axis) => Ok(projection_near(alloc, *axis, a, da, steps)?),
         _ => shape(alloc, op, da),
     }
+}
+
+// The change of a projection that is at hand. Before the change, the projection of what is in the opened box is what `own` has in that
+// box without the axis, so only what is there after the change is projected.
+fn projection_once<L: Ledger>(
+    alloc: Global,
+    axis: usize,
+    own: &Tiles,
+    a: &Tiles,
+    da: Rows<'_>,
+    steps: &mut Steps<L>,
+) -> Result<Solid, NoMemory>
+    requires same_dim { (vertices_of da).dim ≡ a.now.dim }
+    requires some { 0 < length (vertices_of da).rows }
+    requires deep { 2 ≤ a.now.dim }
+    requires low { 0 < axis }
+    requires high { axis ≤ a.now.dim }
+    requires own_dim { own.now.dim ≡ a.now.dim - 1 }
+    requires own_cells { cells_of own.now ≡ shape_before (Op1.Proj axis) a.now }
+    ensures part { IfOk result
+        (λ s. s ≡ shape_change (Op1.Proj axis) a.now (vertices_of da.entry)) }
+    ensures few { steps.new
+        ≤ steps.old + shape_cuts (Op1.Proj axis) a.now (vertices_of da.entry) }
+    ensures more { steps.old ≤ steps.new }
+{
+    let dim = da.dim();
+    let ends = open_box(da, axis);
+    let columns = a.window(alloc, &ends.lo[..dim], &ends.hi[..dim])?;
+    let base = without_axis(ends, axis);
+    let kept = own.window(alloc, &base.lo[..dim - 1], &base.hi[..dim - 1])?;
+    let after = xor(alloc, columns.rows(), da)?;
+    let shadow = shadow_of(alloc, after.rows(), axis, steps)?;
+    let made = xor(alloc, kept.rows(), shadow.rows())?;
+    Ok(made)
+}
+
+/// The change of a projection, as of [`delta1`], where the projection before is at hand: `own` is the projection of `a` along the
+/// axis, counted from 1, and `a` becomes `a xor da`.
+///
+/// Only what stands in whole columns over the least box of the change is projected, once, after the change; before it the tree
+/// `own` has what is in the shadow of that box. Where nothing changes, nothing is done. Takes the memory of both windows, and of the
+/// projection of the one.
+///
+/// It counts a step for each height at which what it projects changes. The one error is want of memory.
+pub fn projection_change<L: Ledger>(
+    alloc: Global,
+    axis: usize,
+    own: &Tiles,
+    a: &Tiles,
+    da: Rows<'_>,
+    steps: &mut Steps<L>,
+) -> Result<Solid, NoMemory>
+    requires same_dim { (vertices_of da).dim ≡ a.now.dim }
+    requires fits { Fits (Op1.Proj axis) a.now.dim }
+    requires own_dim { own.now.dim ≡ op1_dim (Op1.Proj axis) a.now.dim }
+    requires own_cells { cells_of own.now ≡ shape_before (Op1.Proj axis) a.now }
+    ensures vertices { IfOk result
+        (λ s. s ≡ shape_change (Op1.Proj axis) a.now (vertices_of da.entry)) }
+    ensures dim { IfOk result (λ s. s.dim ≡ op1_dim (Op1.Proj axis) a.now.dim) }
+
+    // The projection before becomes the projection after.
+    ensures carries { IfOk result
+        (λ s. CarriesShape (Op1.Proj axis) a.now (vertices_of da.entry) s) }
+
+    // Whatever it answers.
+    ensures few { steps.new
+        ≤ steps.old + shape_cuts (Op1.Proj axis) a.now (vertices_of da.entry) }
+    ensures more { steps.old ≤ steps.new }
+{
+    if da.len() == 0 {
+        return Ok(Solid::empty(alloc, da.dim() - 1));
+    }
+    let made = projection_once(alloc, axis, own, a, da, steps)?;
+    Ok(made)
 }

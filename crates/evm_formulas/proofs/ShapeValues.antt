@@ -53,6 +53,14 @@ shape_is op a f d c =
     let e : f.cells ≡ (shape_of op a).cells = c ∙ sym (shape_cells op a) in
     λ i. record { dim = n i; cells = e i }
 
+-- a solid that is the shape of another
+module _ (op : Op1) (own a : Vertices) (is : figure_of own ≡ shape_of op (figure_of a)) where
+  pub own_dim : own.dim ≡ op1_dim op a.dim
+  own_dim = ap (λ (f : Figure). f.dim) is ∙ shape_dim op (figure_of a)
+
+  pub own_cells : cells_of own ≡ shape_before op a
+  own_cells = ap (λ (f : Figure). f.cells) is ∙ shape_cells op (figure_of a)
+
 xor_dim : (f g : Figure) → (xor_of f g).dim ≡ f.dim
 unfolding xor_of
 xor_dim f g = refl

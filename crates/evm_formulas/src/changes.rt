@@ -10,7 +10,7 @@ ghost use Rattle.evm_formulas.specs.Operations.{shape_of, shape_stays};
 ghost use Rattle.evm_formulas.specs.Changes.{after_of, IsChange, Moves};
 ghost use Rattle.evm_formulas.specs.Steps.{pair_cuts, shape_cuts};
 
-use super::shapes::shape_change;
+use super::shapes::{projection_changed, shape_change};
 use super::solids::{change, changed, exclusive_or, is_none, none, stays};
 use evm_boolean::Op2;
 use evm_delta::{DeltaError, Op1};
@@ -109,11 +109,47 @@ pub fn both_changed<L: Ledger>(
     Ok(Some(Change { delta, after }))
 }
 
+/// The change of a shape whose operand changes: of a projection, by `own`, the shape of `a` before; of another shape, by the change of
+/// the operand alone.
+fn delta_of<L: Ledger>(
+    alloc: Global,
+    op: &Op1,
+    own: &Tiles,
+    a: &Tiles,
+    moved: &Change,
+    steps: &mut Steps<L>,
+) -> Result<Solid, DeltaError>
+    requires value { figure_of own.now ≡ shape_of op.now (figure_of a.now) }
+    requires fits { Fits op.now a.now.dim }
+    requires stays { shape_stays op.now (figure_of a.now) ≡ true }
+    requires change { IsChange (Some moved.now) (figure_of a.now) }
+    ensures carries { IfOk result
+        (λ d. xor_of (shape_of op.now (figure_of a.now)) (figure_of d)
+        ≡ shape_of op.now (xor_of (figure_of a.now) (figure_of moved.now.delta))) }
+    ensures dim { IfOk result (λ d. d.dim ≡ op1_dim op.now a.now.dim) }
+    ensures range { IsErrOf result DeltaError.Range
+        ↔ (shape_stays op.now (xor_of (figure_of a.now) (figure_of moved.now.delta)) ≡ false) }
+
+    // Whatever it answers.
+    ensures few { steps.new
+        ≤ steps.old
+        + 6
+        * (1
+        + shape_cuts op.now (figure_of a.now)
+        (xor_of (figure_of a.now) (figure_of moved.now.delta))) }
+    ensures more { steps.old ≤ steps.new }
+{
+    match op {
+        Op1::Proj(axis) => Ok(projection_changed(alloc, *axis, own, a, &moved.delta, steps)?),
+        _ => shape_change(alloc, op, a, &moved.delta, steps),
+    }
+}
+
 /// How a shape changes with its operand, or none where it does not.
 ///
 /// `own` is the shape of `a` before its change. Where the operand does not change, nothing is looked at, and no step is counted; else
-/// the steps are those of [`shape_change`]. It is `Range` exactly where the shape moves some cell of the changed operand out of the
-/// limits.
+/// the steps are those of [`projection_changed`] for a projection, whose change is found with the help of `own`, and those of
+/// [`shape_change`] for another shape. It is `Range` exactly where the shape moves some cell of the changed operand out of the limits.
 pub fn one_changed<L: Ledger>(
     alloc: Global,
     op: &Op1,
@@ -148,7 +184,7 @@ pub fn one_changed<L: Ledger>(
     let Some(moved) = da else {
         return Ok(None);
     };
-    let delta = shape_change(alloc, op, a, &moved.delta, steps)?;
+    let delta = delta_of(alloc, op, own, a, moved, steps)?;
     if is_none(&delta) {
         return Ok(None);
     }

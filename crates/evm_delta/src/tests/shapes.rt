@@ -1,12 +1,13 @@
-ghost use Rattle.std.specs.Prelude.{◌≡◌, ◌<◌, true};
+ghost use Rattle.std.specs.Prelude.{◌≡◌, ◌<◌, ◌≤◌, true};
 ghost use Rattle.evm_rows.specs.Rows.{cells_of};
 ghost use Rattle.evm_rows.specs.View.{vertices_of};
-ghost use Rattle.evm_delta.specs.Shapes.{Fits, in_range};
+ghost use Rattle.evm_delta.specs.Shapes.{Fits, op1_dim, in_range, shape_before};
 
 use super::has_rows;
-use crate::{DeltaError, Op1, delta1, shape};
-use evm_rows::{Rows, Solid};
+use crate::{DeltaError, Op1, delta1, projection_change, shape};
+use evm_rows::{NoMemory, Rows, Solid};
 use evm_script::Nums;
+use evm_shapes::project;
 use evm_steps::Steps;
 use evm_tiles::Tiles;
 use std::alloc::Global;
@@ -147,9 +148,56 @@ fn cut(alloc: Global) -> (bool, bool, bool, bool, bool) {
     )
 }
 
+// The change of a projection that is at hand, with a counter of its own.
+fn counted_beside<L: Ledger>(
+    alloc: Global,
+    axis: usize,
+    own: &Tiles,
+    tree: &Tiles,
+    da: Rows<'_>,
+    blank: Blank,
+) -> Result<Solid, NoMemory>
+    requires same_dim { (vertices_of da).dim ≡ tree.now.dim }
+    requires fits { Fits (Op1.Proj axis) tree.now.dim }
+    requires own_dim { own.now.dim ≡ op1_dim (Op1.Proj axis) tree.now.dim }
+    requires own_cells { cells_of own.now ≡ shape_before (Op1.Proj axis) tree.now }
+    requires name { blank.name ≡ L.name }
+    requires parts { blank.parts ≡ L.parts }
+    requires some { 0 < L.parts }
+{
+    let mut steps = Steps::<L>::start(blank);
+    projection_change(alloc, axis, own, tree, da, &mut steps)
+}
+
+// The change of the projection of the cells (0, 0) and (1, 0), where they become (0, 0) and (2, 0).
+fn beside(alloc: Global, axis: usize) -> Result<Solid, NoMemory>
+    requires low { 0 < axis }
+    requires high { axis ≤ 2 }
+{
+    let (Ok(a), Ok(da)) = (
+        Solid::of_box(alloc, &[0, 0], &[2, 1]),
+        Solid::of_box(alloc, &[1, 0], &[3, 1]),
+    ) else {
+        return Err(NoMemory);
+    };
+    let shadow = project(alloc, a.rows(), axis)?;
+    let own = Tiles::from_rows(alloc, shadow.rows())?;
+    let tree = Tiles::from_rows(alloc, a.rows())?;
+    counted_beside::<Brand>(alloc, axis, &own, &tree, da.rows(), Blank::new(1))
+}
+
+// Projections that are at hand. That along the first axis stays as it is, and that along the second as it is at (0).
+fn at_hand(alloc: Global) -> (bool, bool) {
+    (
+        beside(alloc, 1).is_ok_and(|s| has_rows(&s, 1, &[])),
+        beside(alloc, 2).is_ok_and(|s| has_rows(&s, 1, &[1, 3])),
+    )
+}
+
 #[test]
 fn changes_shapes(rt: HostRuntime) {
     assert_eq!(rt; moved(rt.alloc()), (true, true, true, true));
     assert_eq!(rt; cut(rt.alloc()), (true, true, true, true, true));
     assert_eq!(rt; grown(rt.alloc()), (true, true));
+    assert_eq!(rt; at_hand(rt.alloc()), (true, true));
 }
